@@ -1,0 +1,30 @@
+# make run    the demonstration on a small network
+# make test   the gate: every proof and must-fail edit, then the comparison with the second implementation
+# make bench  engine and second implementation side by side
+# make fuzz   a long comparison on generated input
+
+CARGO = cargo --offline
+HARNESS = harness/target/release
+FILES = 200000
+FUZZ = 10000000
+SEED = 20261115
+
+.PHONY: run test bench fuzz harness
+
+run:
+	rt check demo
+	target/bin/demo < crates/demo/stdin
+
+test:
+	bash tools/gate FILES=$(FILES) SEED=$(SEED)
+
+bench: harness
+	$(HARNESS)/bench
+
+fuzz: harness
+	$(HARNESS)/compare --fuzz $(FUZZ) --seed $(SEED)
+
+# The static library is rebuilt from proved crates only: rt refuses to write it otherwise.
+harness:
+	rt staticlib engine
+	cd harness && $(CARGO) build --release

@@ -1,0 +1,55 @@
+-- Refused by the curve call, refused by the lent words' number, or told.
+use Prim.Native.Nat.{_<_}
+use mathlib.Core.Path.{_≡_, sym, ap, _∙_}
+use native.Mathlib.Omega.{arith}
+use denote.Ref.{now}
+use borrow.Author.Needs.{needs}
+use borrow.Author.Tests.{lt-ltb, le-ltb}
+use Rattle.laws.proofs.First.{row-applies, row-skipped, first-some, first-zero, when-accepted, when-refused}
+use Rattle.network.specs.Curve.{curveCallNumber}
+use Rattle.network.proofs.CurveCall.{curve-below}
+use Rattle.engine.specs.Place.{placeNumber, placeWords}
+use Rattle.engine.proofs.network_curve.Statement.{statement}
+use Rattle.engine.proofs.network_curve.Tie as tie
+
+accepted : (c : tie.Else1) → curveCallNumber (now (c .before .before .before .before .args .file)) (c .before .before .before .before .args .k) ≡ 0
+accepted c = sym (c .before .curve-number .ensures) ∙ c .if1 .left
+
+returns : tie.Need-returns
+unfolding placeNumber placeWords
+returns c =
+    let e = c .before .curve-number .ensures in
+    let number = e ∙ sym (first-some _ _ (λ z. c .if1 .taken (e ∙ z))) in
+    (number, sym (when-refused _ _ _ (λ z. c .if1 .taken (number ∙ z))))
+
+returns-2 : tie.Need-returns-2
+unfolding placeNumber placeWords
+returns-2 c =
+    let number = sym (first-zero _ _ (accepted (c .before)) ∙ row-applies _ _ _ (lt-ltb _ _ (c .if2 .taken))) in
+    (number, sym (when-refused _ _ _ (λ z. omega (arith, number ∙ z))))
+
+mul-place : tie.Need-mul-place
+mul-place c = omega (arith, curve-below _ _ (accepted (c .before)))
+
+add-place : tie.Need-add-place
+add-place c = omega (arith, curve-below _ _ (accepted (c .before)))
+
+returns-3 : tie.Need-returns-3
+unfolding placeNumber placeWords
+returns-3 c =
+    let number = first-zero _ _ (accepted (c .before)) ∙ row-skipped _ _ _ (le-ltb _ _ (c .if2 .left)) in
+    (sym number, sym (when-accepted _ _ _ number))
+
+pub network-curve-spec : {M : Type 1} → statement M
+network-curve-spec =
+    tie.close
+    (tie.spec
+    (λ c κs. search needs)
+    returns
+    returns-2
+    mul-place
+    add-place
+    (λ c. search needs)
+    (λ c. search needs)
+    (λ c. search needs)
+    returns-3)

@@ -1,0 +1,16 @@
+-- Where a curve stands in its file, as C is told: byte offset and length, put into two lent words.
+use Prim.Native.Nat.{ℕ}
+use mathlib.Core.List.{List}
+use lib.Dec.{ltb}
+use lib.ListN.{length, set}
+use Rattle.laws.specs.First.{row, first, ifAccepted}
+use Rattle.network.specs.File.{curveStart}
+use Rattle.network.specs.Curve.{curveCallNumber}
+
+-- the number of the curve call, then 24 where two words are not lent
+unfoldable pub placeNumber : List ℕ → ℕ → List ℕ → ℕ
+placeNumber b k place = first (curveCallNumber b k) (row (ltb (length place) 2) 24 0)
+
+-- a refused call leaves the words as they came; later words stay
+unfoldable pub placeWords : List ℕ → ℕ → List ℕ → List ℕ
+placeWords b k place = ifAccepted (placeNumber b k place) (set (set place 0 (curveStart k)) 1 804) place

@@ -1,0 +1,5 @@
+pub mod Tests
+pub mod First
+pub mod Lists
+pub mod Puts
+pub mod BigEndian

@@ -1,0 +1,121 @@
+-- Laws of tables and of parts of lists.
+use Prim.Native.Nat.{ℕ, zero, suc, _+_, _-_, _*_, _≤_, _<_}
+use mathlib.Core.Path.{_≡_, refl, sym, ap, ap₂, _∙_}
+use mathlib.Core.Logic.{⊎-elim}
+use mathlib.Core.List.{List, [], _∷_, _++_, append-assoc, append-nil}
+use native.Mathlib.Nat.{le-of-suc-le-suc, not-suc-le-zero, eq-or-lt-of-le, mul-zero, mul-suc, add-suc, add-zero, le-trans, le-of-eq, add-assoc}
+use native.Mathlib.Omega.{arith}
+use lib.ListN.{length, getD, take, drop, length-append, length-take, length-drop, take-append-drop, drop-of-length-le, List·getD-append}
+use lib.Seq.{getD-at, getD-take, getD-drop, take-add, take-at, drop-at, drop-drop, drop-cons, ext-getD, length-take-le}
+use Rattle.laws.specs.Lists.{table, part, parts}
+
+-- ---- tables
+
+pub length-table {ℓ} : {A : Type ℓ} (f : ℕ → A) (n : ℕ) → length (table f n) ≡ n
+unfolding table
+length-table f zero = refl
+length-table f (suc n) = let h = length-table f n in simp length-append (omega arith)
+
+pub getD-table {ℓ} : {A : Type ℓ} (f : ℕ → A) (n i : ℕ) (d : A) → i < n → getD (table f n) i d ≡ f i
+unfolding table
+getD-table f zero i d l = absurd (not-suc-le-zero l)
+getD-table f (suc n) i d l =
+    ⊎-elim
+    (λ e. rw (← e) (getD-at (table f i) (f i) [] d i (length-table f i)))
+    (λ lt. List·getD-append (table f n) (f n ∷ []) d i (rw length-table lt) ∙ getD-table f n i d lt)
+    (eq-or-lt-of-le (le-of-suc-le-suc l))
+
+pub table-ext {ℓ} : {A : Type ℓ} (f g : ℕ → A) (n : ℕ) → ((i : ℕ) → i < n → f i ≡ g i) → table f n ≡ table g n
+unfolding table
+table-ext f g zero h = refl
+table-ext f g (suc n) h = λ j. table-ext f g n (λ i k. h i (omega arith)) j ++ (h n (omega arith) j ∷ [])
+
+-- a list is the table of its elements
+pub table-of {ℓ} : {A : Type ℓ} (f : ℕ → A) (l : List A) (n : ℕ) (d : A) → length l ≡ n → ((i : ℕ) → i < n → f i ≡ getD l i d) → table f n ≡ l
+table-of f l n d e each =
+    ext-getD d (table f n) l (length-table f n ∙ sym e)
+    (λ i h. let k : i < n = rw length-table at h in getD-table f n i d k ∙ each i k)
+
+-- ---- parts
+
+pub parts-ext {ℓ} : {A : Type ℓ} (f g : ℕ → List A) (n : ℕ) → ((i : ℕ) → i < n → f i ≡ g i) → parts f n ≡ parts g n
+unfolding parts
+parts-ext f g zero h = refl
+parts-ext f g (suc n) h = λ j. parts-ext f g n (λ i k. h i (omega arith)) j ++ h n (omega arith) j
+
+pub length-parts {ℓ} : {A : Type ℓ} (w : ℕ) (f : ℕ → List A) (n : ℕ) → ((k : ℕ) → k < n → length (f k) ≡ w) → length (parts f n) ≡ w * n
+unfolding parts
+length-parts w f zero each = sym (mul-zero w)
+length-parts w f (suc k) each =
+    length-append (parts f k) (f k)
+    ∙ ap₂ (λ (x y : ℕ). x + y) (length-parts w f k (λ i h. each i (omega arith))) (each k (omega arith))
+    ∙ sym (mul-suc w k)
+
+-- the first m + n lists are the first m, then n more
+pub parts-add {ℓ} : {A : Type ℓ} (f : ℕ → List A) (m n : ℕ) → parts f (m + n) ≡ parts f m ++ parts (λ i. f (m + i)) n
+unfolding parts
+parts-add f m zero = rw (add-zero, append-nil)
+parts-add f m (suc n) = rw (add-suc, parts-add f m n) (append-assoc (parts f m) (parts (λ i. f (m + i)) n) (f (m + n)))
+
+-- m lists c times are m * c lists
+pub parts-parts {ℓ} : {A : Type ℓ} (f : ℕ → List A) (m c : ℕ) → parts (λ k. parts (λ j. f (m * k + j)) m) c ≡ parts f (m * c)
+unfolding parts
+parts-parts f m zero = rw mul-zero
+parts-parts f m (suc c) = rw (parts-parts f m c, mul-suc) (sym (parts-add f (m * c) m))
+
+-- a list is its equal parts, one after the other
+pub parts-of {ℓ} : {A : Type ℓ} (f : ℕ → List A) (w : ℕ) (l : List A) (n : ℕ) → ((k : ℕ) → k < n → f k ≡ take w (drop (w * k) l)) → parts f n ≡ take (w * n) l
+unfolding parts
+parts-of f w l zero each = rw mul-zero
+parts-of f w l (suc n) each =
+    ap₂ (λ (x y : List _). x ++ y) (parts-of f w l n (λ k lt. each k (omega arith))) (each n (omega arith))
+    ∙ sym (take-add (w * n) w l)
+    ∙ ap (λ (m : ℕ). take m l) (sym (mul-suc w n))
+
+-- part i of equal parts
+pub parts-at {ℓ} : {A : Type ℓ} (w : ℕ) (f : ℕ → List A) (n i : ℕ) (rest : List A) → ((k : ℕ) → k < n → length (f k) ≡ w) → i < n → take w (drop (w * i) (parts f n ++ rest)) ≡ f i
+unfolding parts
+parts-at w f zero i rest each g = absurd (not-suc-le-zero g)
+parts-at {A = A} w f (suc n) i rest each g =
+    let below : (k : ℕ) → k < n → length (f k) ≡ w = λ k h. each k (omega arith) in
+    let last : drop (w * n) (parts f n ++ (f n ++ rest)) ≡ f n ++ rest = drop-at (parts f n) (f n ++ rest) (w * n) (length-parts w f n below) in
+    ap (λ (x : List A). take w (drop (w * i) x)) (append-assoc (parts f n) (f n) rest)
+    ∙ ⊎-elim
+    (λ e.
+    ap (λ (m : ℕ). take w (drop (w * m) (parts f n ++ (f n ++ rest)))) e
+    ∙ ap (take w) last
+    ∙ take-at (f n) rest w (each n (omega arith))
+    ∙ ap f (sym e))
+    (λ lt. parts-at w f n i (f n ++ rest) below lt)
+    (eq-or-lt-of-le (le-of-suc-le-suc g))
+
+-- ---- the elements of a part, one by one
+
+unfoldable pub listed : {A : Type 0} → A → List A → ℕ → ℕ → ℕ → List A
+listed d b i j zero = []
+listed d b i j (suc n) = getD b (i + j) d ∷ listed d b i (suc j) n
+
+take-listed : {A : Type 0} (d : A) (b : List A) (i j n : ℕ) → i + j + n ≤ length b → take n (drop (i + j) b) ≡ listed d b i j n
+unfolding listed
+take-listed d b i j zero l = refl
+take-listed {A = A} d b i j (suc n) l =
+    let more : i + suc j + n ≤ length b = omega arith in
+    let here : i + j < length b = omega arith in
+    rw (drop-cons b (i + j) d here) (ap (λ (r : List A). getD b (i + j) d ∷ r) (rw (← add-suc) (take-listed d b i (suc j) n more)))
+
+pub part-listed : {A : Type 0} (d : A) (b : List A) (i n : ℕ) → i + n ≤ length b → part i n b ≡ listed d b i 0 n
+part-listed d b i n l = let l0 : i + 0 + n ≤ length b = omega arith in rw add-zero at (take-listed d b i 0 n l0)
+
+pub three-parts : {A : Type 0} (b : List A) (m n : ℕ) → take m b ++ (part m n b ++ drop (m + n) b) ≡ b
+three-parts b m n = rw (← drop-drop n m b) (rw (take-append-drop n (drop m b)) (take-append-drop m b))
+
+-- element i + j, read in the part that starts at s
+pub part-at : {A : Type 0} (b : List A) (s w i : ℕ) (d : A) → i < w → getD (part s w b) i d ≡ getD b (s + i) d
+part-at b s w i d l = getD-take w (drop s b) i d l ∙ getD-drop s b i d
+
+pub length-part : {A : Type 0} (b : List A) (s w : ℕ) → s + w ≤ length b → length (part s w b) ≡ w
+length-part b s w l = length-take-le w (drop s b) (simp length-drop (omega arith))
+
+-- the length of a part, as its two ends give it
+pub span : (a w : ℕ) → a + w - a ≡ w
+span a w = omega arith

@@ -1,0 +1,100 @@
+-- What acceptance says of a file, and which part of the file refuses it.
+use Prim.Native.Nat.{ℕ, _+_, _*_, _≤_, _<_}
+use mathlib.Core.Bool.{Bool, true, false, _||_, not}
+use mathlib.Core.List.{List, []}
+use mathlib.Core.Path.{_≡_, refl, sym, ap, _∙_}
+use lib.Dec.{ltb, eqb, lit<}
+use lib.ListN.{length, getD}
+use borrow.Author.Tests.{ltb-false, eqb-true, not-false}
+use Rattle.laws.specs.First.{row, first, firstOf}
+use Rattle.laws.specs.BigEndian.{u16At}
+use Rattle.laws.proofs.Tests.{or-left, or-right}
+use Rattle.laws.proofs.First.{row-passed, row-later, row-skipped, row-applies, first-some, first-zero, first-zero-left, first-zero-right, firstOf-zero, firstOf-all}
+use Rattle.network.specs.declared.Head.{Head}
+use Rattle.network.specs.declared.Segment.{Segment}
+use Rattle.network.specs.Network.{networkFrom, entryOf, segmentOf, headBad, fieldThenSpeed, segmentNumber, rowsNumber, networkNumber}
+use Rattle.network.specs.File.{hasMark, versionOf, headOf, headPadding, fileSize, headNumber, curveStart, entryAt, curveIn, curvesNumber, recordStart, segmentAt, recordPadding, recordNumber, recordsNumber, fileNumber, entryOn, segmentOn, networkOf}
+use Rattle.network.specs.Accepted.{RowsWithin, Sized}
+use Rattle.network.proofs.Rows.{head-within, rows-within}
+use Rattle.network.proofs.From.{from-number}
+
+-- ---- the head
+
+pub record HeadAccepted (b : List ℕ) : Type 0 where
+  pub long : 16 ≤ length b
+  pub marked : hasMark b ≡ true
+  pub version : versionOf b ≡ 1
+  pub fields : headBad (headOf b) ≡ false
+  pub padding : headPadding b ≡ false
+  pub sized : Sized b (headOf b)
+
+pub head-accepted : (b : List ℕ) → headNumber b ≡ 0 → HeadAccepted b
+unfolding headNumber
+head-accepted b e =
+    let e2 = row-later _ _ _ e in
+    let e3 = row-later _ _ _ e2 in
+    let e4 = row-later _ _ _ e3 in
+    let e5 = row-later _ _ _ e4 in
+    let fields = or-left _ (headPadding b) (row-passed _ _ _ e4) in
+    record {
+      long = ltb-false _ _ (row-passed _ _ _ e);
+      marked = not-false _ (row-passed _ _ _ e2);
+      version = eqb-true _ _ (not-false _ (row-passed _ _ _ e3));
+      fields = fields;
+      padding = or-right (headBad (headOf b)) _ (row-passed _ _ _ e4);
+      sized = record { within = head-within (headOf b) fields; long = eqb-true _ _ (not-false _ (row-passed _ _ _ e5)) };
+    }
+
+-- ---- the file: which part refuses it
+
+module _ (b : List ℕ) where
+  pub file-head : (headNumber b ≡ 0 → ⊥) → fileNumber b ≡ headNumber b
+  unfolding fileNumber
+  file-head n = first-some _ _ n
+
+  pub file-curves : headNumber b ≡ 0 → (curvesNumber b ≡ 0 → ⊥) → fileNumber b ≡ curvesNumber b
+  unfolding fileNumber
+  file-curves z n = first-zero _ _ z ∙ first-some _ _ n
+
+  pub file-records : headNumber b ≡ 0 → curvesNumber b ≡ 0 → fileNumber b ≡ recordsNumber b
+  unfolding fileNumber
+  file-records z w = first-zero _ _ z ∙ first-zero _ _ w
+
+-- what acceptance says of the whole file
+pub record FileAccepted (b : List ℕ) : Type 0 where
+  pub head : HeadAccepted b
+  pub curves : (k : ℕ) → k < headOf b .curves → curveIn b k ≡ 0
+  pub records : (i : ℕ) → i < headOf b .size → recordNumber b (headOf b) i ≡ 0
+
+pub file-accepted : (b : List ℕ) → fileNumber b ≡ 0 → FileAccepted b
+unfolding fileNumber curvesNumber recordsNumber
+file-accepted b e =
+    let later = first-zero-right _ _ e in
+    record {
+      head = head-accepted b (first-zero-left _ _ e);
+      curves = firstOf-zero (curveIn b) _ (first-zero-left _ _ later);
+      records = firstOf-zero (recordNumber b (headOf b)) _ (first-zero-right _ _ later);
+    }
+
+-- ---- the network of an accepted file is within rows 4, 6, 7 and 8
+
+module _ (b : List ℕ) where
+  segment-in : FileAccepted b → (i : ℕ) → i < headOf b .size → segmentNumber (headOf b) (entryOn b) (segmentOn b) i ≡ 0
+  unfolding segmentNumber recordNumber fieldThenSpeed
+  segment-in a i l =
+      let z = a .records i l in
+      row-skipped _ _ _ (or-left _ (recordPadding b (recordStart (headOf b) i)) (row-passed _ _ _ z)) ∙ row-later _ _ _ z
+
+  pub network-accepted : fileNumber b ≡ 0 → networkNumber (networkOf b) ≡ 0
+  unfolding rowsNumber
+  network-accepted z =
+      let a = file-accepted b z in
+      from-number (headOf b) (entryOn b) (segmentOn b)
+      ∙ row-skipped _ _ _ (a .head .fields)
+      ∙ first-zero _ _ (firstOf-all (curveIn b) _ (a .curves))
+      ∙ firstOf-all _ _ (segment-in a)
+
+  -- every bound that the floors above need
+  pub network-within : fileNumber b ≡ 0 → RowsWithin (headOf b) (entryOf (networkOf b)) (segmentOf (networkOf b))
+  unfolding networkFrom
+  network-within z = rows-within _ _ _ (network-accepted z)

@@ -1,0 +1,9 @@
+pub mod Rows
+pub mod From
+pub mod File
+pub mod CurveCall
+pub mod RoundTrip
+pub mod Writing
+pub mod Reading
+pub mod Keeping
+pub mod Marked

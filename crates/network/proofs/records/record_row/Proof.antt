@@ -1,0 +1,85 @@
+-- The record is read as s; row 7 is the fields' test or the padding's, and row 8 is asked where it passes.
+use mathlib.Core.Path.{_≡_, refl, sym, ap, _∙_}
+use mathlib.Core.Bool.{Bool, true, false, _||_}
+use native.Mathlib.Omega.{arith}
+use denote.Ref.{now}
+use Rattle.laws.proofs.Tests.{or-left}
+use Rattle.network.specs.declared.Segment.{Segment}
+use Rattle.network.specs.Network.{segmentBad, tooFast, fieldThenSpeed}
+use Rattle.network.specs.File.{recordNumber, recordPadding, recordStart, segmentAt, entryAt, curveStart}
+use Rattle.network.specs.Accepted.{SegmentWithin}
+use Rattle.network.proofs.Rows.{segment-within, field-refused, speed-refused, speed-passed}
+use borrow.Author.Needs.{needs}
+use Rattle.network.proofs.records.record_row.Statement.{statement}
+use Rattle.network.proofs.records.record_row.Tie as tie
+
+-- the value of row 7's test
+fields :
+    (c : tie.After-record-padding) →
+    let a = c .before .before .before .before .args in
+    let at = recordStart (a .h) (a .i) in
+    (segmentBad (a .h) (a .i) (segmentAt (now (a .file)) at) || recordPadding (now (a .file)) at) ≡ (c .before .segment-bad .result || c .record-padding .result)
+fields c = sym (rw (c .before .segment-bad .ensures, c .record-padding .ensures, c .before .before .read-segment .ensures))
+
+within :
+    (c : tie.Else1) →
+    let a = c .before .before .before .before .before .args in
+    SegmentWithin (a .h) (a .i) (c .before .before .before .read-segment .result)
+within c =
+    segment-within _ _ _ (sym (c .before .before .segment-bad .ensures) ∙ or-left _ (c .before .record-padding .result) (c .if1 .left))
+
+-- the value of row 8's test
+speed :
+    (c : tie.After-too-fast) →
+    let a = c .before .before .before .before .before .before .before .args in
+    let s = segmentAt (now (a .file)) (recordStart (a .h) (a .i)) in
+    tooFast (a .h) (entryAt (now (a .file)) (curveStart (s .curve)) 0) s ≡ c .too-fast .result
+speed c = sym (rw (c .too-fast .ensures, c .before .entry .ensures .0, c .before .before .before .before .before .read-segment .ensures))
+
+returns : tie.Need-returns
+unfolding recordNumber
+returns c = field-refused _ _ _ _ (fields (c .before) ∙ c .if1 .taken)
+
+mul-entry : tie.Need-mul-entry
+mul-entry c = omega (arith, within c)
+
+add-entry : tie.Need-add-entry
+add-entry c = omega (arith, within c)
+
+entry-requires : tie.Need-entry-requires
+entry-requires c κs = omega (arith, within c)
+
+too-fast-requires : tie.Need-too-fast-requires
+too-fast-requires c κs =
+    (c .before .before .before .before .before .before .pre .0 .within .step-high, c .entry .ensures .1, within (c .before) .metres-high)
+
+returns-2 : tie.Need-returns-2
+unfolding recordNumber
+returns-2 c =
+    let c1 = c .before .before .before in
+    speed-refused _ _ _ _ (fields (c1 .before) ∙ c1 .if1 .left) (speed (c .before) ∙ c .if2 .taken)
+
+returns-3 : tie.Need-returns-3
+unfolding recordNumber
+returns-3 c =
+    let c1 = c .before .before .before in
+    speed-passed _ _ _ _ (fields (c1 .before) ∙ c1 .if1 .left) (speed (c .before) ∙ c .if2 .left)
+
+pub record-row-spec : {M : Type 1} → statement M
+record-row-spec =
+    tie.close
+    (tie.spec
+    (λ c. search needs)
+    (λ c. search needs)
+    (λ c. search needs)
+    (λ c. search needs)
+    (λ c κs. search needs)
+    (λ c κs. search needs)
+    (λ c κs. search needs)
+    returns
+    mul-entry
+    add-entry
+    entry-requires
+    too-fast-requires
+    returns-2
+    returns-3)

@@ -1,0 +1,14 @@
+use mathlib.Core.Path.{_≡_, sym, ap, _∙_}
+use Rattle.network.specs.Written.{segmentBytes}
+use borrow.Author.Needs.{needs}
+use Rattle.network.proofs.writer.put_segment.Statement.{statement}
+use Rattle.network.proofs.writer.put_segment.Tie as tie
+
+returns : tie.Need-returns
+unfolding segmentBytes
+returns c = c .before .before .copy .ensures .1 ∙ rw (c .before .before .before .before .before .segment-bytes .ensures)
+
+pub put-segment-spec : {M : Type 1} → statement M
+put-segment-spec =
+    tie.close
+    (tie.spec (λ c κs. search needs) (λ c. search needs) (λ c κs. search needs) (λ c. search needs) returns)

@@ -1,0 +1,52 @@
+// A curve's 201 entries in the file: row 6.
+use crate::number;
+ghost use mathlib.Core.Path.{_≡_};
+ghost use Prim.Native.Nat.{_+_, _*_, _<_, _≤_};
+ghost use lib.ListN.{length};
+ghost use Rattle.laws.specs.First.{firstOf};
+ghost use Rattle.network.specs.Network.{curveNumber};
+ghost use Rattle.network.specs.File.{curveStart, curveIn, entryAt};
+
+// Entry j of the curve at place at.
+pub(crate) fn entry(file: &[u8], at: usize, j: usize) -> u64
+    requires { ⌜ at + 4 * j + 4 ≤ length (now file) ⌝ }
+    ensures { λ r. ⌜ (r ≡ entryAt (now (file .entry)) at j) × (r < 4294967296) ⌝ }
+{
+    number::u32_in(file, at + 4 * j)
+}
+
+fn curve_row(file: &[u8], at: usize) -> u64
+    requires { ⌜ at + 804 ≤ length (now file) ⌝ }
+    ensures { λ r. ⌜ r ≡ curveNumber (entryAt (now (file .entry)) at) ⌝ }
+{
+    let mut last = entry(file, at, 0);
+    if number::outside(1000, last, 200000) {
+        return 6;
+    }
+    let mut j = 0;
+    while j < 200 {
+        let next = entry(file, at, j + 1);
+        if last < next {
+            return 6;
+        }
+        last = next;
+        j += 1;
+    }
+    0
+}
+
+// Row 6, of the first c curves.
+pub(crate) fn curve_rows(file: &[u8], c: usize) -> u64
+    requires { ⌜ curveStart c ≤ length (now file) ⌝ }
+    ensures { λ r. ⌜ r ≡ firstOf (curveIn (now (file .entry))) c ⌝ }
+{
+    let mut k = 0;
+    while k < c {
+        let r = curve_row(file, 16 + 804 * k);
+        if r != 0 {
+            return r;
+        }
+        k += 1;
+    }
+    0
+}

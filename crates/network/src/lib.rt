@@ -1,0 +1,126 @@
+// The network file: read or refused by a number, its curves shown as the file's own bytes, and a kept network written back.
+mod number; // number.rt: big-endian numbers in bytes
+mod heads; // heads.rt: the first 16 bytes, rows 1 to 5
+mod curves; // curves.rt: a curve's entries, row 6
+mod records; // records.rt: a segment's 16 bytes, rows 7 and 8
+mod words; // words.rt: a network kept in words, rows 4, 6, 7 and 8
+mod writer; // writer.rt: a kept network as bytes
+
+ghost use mathlib.Core.Path.{_≡_};
+ghost use Prim.Native.Nat.{_+_, _*_};
+ghost use Rattle.network.specs.File.{headOf, segmentAt, recordStart, fileNumber};
+ghost use Rattle.network.specs.Curve.{curveCallNumber, curveBytes};
+ghost use Rattle.network.specs.Words.{keptNumber, writeNumber, writeBytes};
+
+// The numbers of the head: the step T in seconds, the number of segments n, the number of curves c, then τ in seconds, ν in km²/h,
+// κ in veh/km/lane and δ in thousandths.
+pub struct Head {
+    pub step: u64,
+    pub size: u64,
+    pub curves: u64,
+    pub tau: u64,
+    pub nu: u64,
+    pub kappa: u64,
+    pub delta: u64,
+}
+
+// The numbers of a segment: its length L in metres, lanes H, the number of its curve, critical and jam density C and J in
+// veh/km/lane, whether it has an origin, the exit share X in thousandths, and the most mv that its origin releases in a step, Q.
+pub struct Segment {
+    pub metres: u64,
+    pub lanes: u64,
+    pub curve: u64,
+    pub critical: u64,
+    pub jam: u64,
+    pub origin: u64,
+    pub exit: u64,
+    pub most: u64,
+}
+
+// The number that refuses the file, and 0 where it is accepted.
+pub fn check(file: &[u8]) -> u64
+    ensures { λ r. ⌜ r ≡ fileNumber (now (file .entry)) ⌝ }
+{
+    let in_head = heads::head_number(file);
+    if in_head != 0 {
+        return in_head;
+    }
+    let h = heads::read_head(file);
+    let c = h.curves as usize;
+    let n = h.size as usize;
+    let in_curves = curves::curve_rows(file, c);
+    if in_curves != 0 {
+        return in_curves;
+    }
+    records::record_rows(file, h, n)
+}
+
+// The number that refuses curve k of the file, and 0 where there is none.
+pub fn curve_number(file: &[u8], k: u64) -> u64
+    ensures { λ r. ⌜ r ≡ curveCallNumber (now (file .entry)) k ⌝ }
+{
+    let r = check(file);
+    if r != 0 {
+        return r;
+    }
+    let h = heads::read_head(file);
+    if h.curves <= k {
+        return 10;
+    }
+    0
+}
+
+// The 804 bytes of the file that hold curve k, or an empty part where curve_number refuses.
+pub fn curve(file: &[u8], k: u64) -> &[u8]
+    ensures { λ r. ⌜ now r ≡ curveBytes (now (file .entry)) k ⌝ }
+{
+    if curve_number(file, k) != 0 {
+        return &file[0..0];
+    }
+    let at = 16 + 804 * (k as usize);
+    &file[at..at + 804]
+}
+
+// The head of a file of any content; a byte past its end reads as 0.
+pub fn head_of(file: &[u8]) -> Head
+    ensures { λ r. ⌜ r ≡ headOf (now (file .entry)) ⌝ }
+{
+    heads::read_head(file)
+}
+
+// Segment i, counted from 0, of a file of any content; a byte past its end reads as 0.
+pub fn segment_of(file: &[u8], i: u32) -> Segment
+    ensures { λ r. ⌜ r ≡ segmentAt (now (file .entry)) (recordStart (headOf (now (file .entry))) i) ⌝ }
+{
+    let c = number::byte_at(file, 7) as usize;
+    records::read_segment(file, 16 + 804 * c + 16 * (i as usize))
+}
+
+// The number that refuses the network kept in these words: 11 where they are too few, then rows 4, 6, 7 and 8, or 0.
+pub fn kept_number(kept: &[u64]) -> u64
+    ensures { λ r. ⌜ r ≡ keptNumber (now (kept .entry)) ⌝ }
+{
+    if kept.len() < 2560 {
+        return 11;
+    }
+    words::rows_number(kept)
+}
+
+// Writes the kept network as a file from the buffer's first byte on; later bytes stay. Gives the number that refuses the words,
+// 24 where the buffer is too short, and 0 where the file is written; a refused call leaves the buffer as it came.
+pub fn write(kept: &[u64], out: &mut [u8]) -> u64
+    ensures { λ r. ⌜ r ≡ writeNumber (now (kept .entry)) (now (out .entry)) ⌝ }
+    ensures { λ _. ⌜ now (out .exit) ≡ writeBytes (now (kept .entry)) (now (out .entry)) ⌝ }
+{
+    let r = kept_number(kept);
+    if r != 0 {
+        return r;
+    }
+    let h = words::head_in(kept);
+    let size = 16 + 804 * h.curves + 16 * h.size;
+    if (out.len() as u64) < size {
+        return 24;
+    }
+    writer::put_network(kept, h, out);
+    0
+}

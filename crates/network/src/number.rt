@@ -1,0 +1,60 @@
+// Big-endian numbers in a list of bytes, and tests of numbers. A byte past the end reads as 0.
+ghost use mathlib.Core.Path.{_≡_};
+ghost use Prim.Native.Nat.{_+_, _%_, _<_, _≤_};
+ghost use lib.ListN.{length};
+ghost use Rattle.laws.specs.First.{outside};
+ghost use Rattle.laws.specs.BigEndian.{byteAt, u16At, u32At, low};
+
+pub(crate) fn wide(x: u8) -> u64
+    ensures { λ r. ⌜ (r ≡ x) × (r < 256) ⌝ }
+{
+    x as u64
+}
+
+pub(crate) fn byte_at(b: &[u8], i: usize) -> u64
+    ensures { λ r. ⌜ (r ≡ byteAt (now (b .entry)) i) × (r < 256) ⌝ }
+{
+    if i < b.len() {
+        return wide(b[i]);
+    }
+    0
+}
+
+pub(crate) fn u16_at(b: &[u8], i: usize) -> u64
+    requires { ⌜ i < 1000000000000 ⌝ }
+    ensures { λ r. ⌜ (r ≡ u16At (now (b .entry)) i) × (r < 65536) ⌝ }
+{
+    byte_at(b, i) * 256 + byte_at(b, i + 1)
+}
+
+pub(crate) fn u32_at(b: &[u8], i: usize) -> u64
+    requires { ⌜ i < 1000000000000 ⌝ }
+    ensures { λ r. ⌜ (r ≡ u32At (now (b .entry)) i) × (r < 4294967296) ⌝ }
+{
+    byte_at(b, i) * 16777216
+        + byte_at(b, i + 1) * 65536
+        + byte_at(b, i + 2) * 256
+        + byte_at(b, i + 3)
+}
+
+// As u32_at, without a test of the length: the curves' loop reads thousands.
+pub(crate) fn u32_in(b: &[u8], i: usize) -> u64
+    requires { ⌜ i + 4 ≤ length (now b) ⌝ }
+    ensures { λ r. ⌜ (r ≡ u32At (now (b .entry)) i) × (r < 4294967296) ⌝ }
+{
+    wide(b[i]) * 16777216 + wide(b[i + 1]) * 65536 + wide(b[i + 2]) * 256 + wide(b[i + 3])
+}
+
+// The lowest byte of x.
+pub(crate) fn low(x: u64) -> u8
+    ensures { λ r. ⌜ r ≡ x % 256 ⌝ }
+{
+    (x % 256) as u8
+}
+
+// Whether x is not one of least..most.
+pub(crate) fn outside(least: u64, x: u64, most: u64) -> bool
+    ensures { λ r. ⌜ r ≡ outside least x most ⌝ }
+{
+    (x < least) | (most < x)
+}

@@ -1,0 +1,99 @@
+// A segment's record, 16 bytes: rows 7 and 8.
+use crate::Head;
+use crate::Segment;
+use crate::curves;
+use crate::number;
+ghost use mathlib.Core.Path.{_≡_};
+ghost use Prim.Native.Nat.{_+_, _<_, _≤_};
+ghost use lib.ListN.{length};
+ghost use Rattle.laws.specs.First.{firstOf};
+ghost use Rattle.network.specs.Network.{segmentBad, tooFast};
+ghost use Rattle.network.specs.File.{segmentAt, recordPadding, recordNumber};
+ghost use Rattle.network.specs.Accepted.{Sized};
+
+pub(crate) fn read_segment(file: &[u8], at: usize) -> Segment
+    requires { ⌜ at < 100000000000 ⌝ }
+    ensures { λ r. ⌜ r ≡ segmentAt (now (file .entry)) at ⌝ }
+{
+    Segment {
+        metres: number::u16_at(file, at),
+        lanes: number::byte_at(file, at + 2),
+        curve: number::byte_at(file, at + 3),
+        critical: number::byte_at(file, at + 4),
+        jam: number::byte_at(file, at + 5),
+        origin: number::byte_at(file, at + 6),
+        exit: number::u16_at(file, at + 8),
+        most: number::u32_at(file, at + 10),
+    }
+}
+
+// Row 7, of the bytes that are zero.
+fn record_padding(file: &[u8], at: usize) -> bool
+    requires { ⌜ at < 100000000000 ⌝ }
+    ensures { λ r. ⌜ r ≡ recordPadding (now (file .entry)) at ⌝ }
+{
+    (0 < number::byte_at(file, at + 7)) | (0 < number::u16_at(file, at + 14))
+}
+
+// Row 7, of the fields of segment i, counted from 0.
+pub(crate) fn segment_bad(h: Head, i: u64, s: Segment) -> bool
+    requires { ⌜ i < 40 ⌝ }
+    ensures { λ r. ⌜ r ≡ segmentBad h i s ⌝ }
+{
+    number::outside(100, s.metres, 2000)
+        | number::outside(1, s.lanes, 8)
+        | (h.curves <= s.curve)
+        | (s.critical < 1)
+        | (s.jam <= s.critical)
+        | number::outside(2, s.jam, 200)
+        | (1 < s.origin)
+        | ((i == 0) & (s.origin == 0))
+        | (1000 < s.exit)
+        | ((i + 1 == h.size) & (0 < s.exit))
+        | ((s.origin == 0) & (0 < s.most))
+        | ((s.origin == 1) & number::outside(1, s.most, 300000))
+}
+
+// Row 8, where first is the first entry of the segment's curve.
+pub(crate) fn too_fast(h: Head, first: u64, s: Segment) -> bool
+    requires { ⌜ (h .step ≤ 60) × (first < 4294967296) × (s .metres ≤ 2000) ⌝ }
+    ensures { λ r. ⌜ r ≡ tooFast h first s ⌝ }
+{
+    3600 * s.metres < first * h.step
+}
+
+fn record_row(file: &[u8], h: Head, i: usize) -> u64
+    requires { ⌜ Sized (now file) h ⌝ }
+    requires { ⌜ i < h .size ⌝ }
+    ensures { λ r. ⌜ r ≡ recordNumber (now (file .entry)) h i ⌝ }
+{
+    let c = h.curves as usize;
+    let at = 16 + 804 * c + 16 * i;
+    let s = read_segment(file, at);
+    if segment_bad(h, i as u64, s) | record_padding(file, at) {
+        return 7;
+    }
+    let k = s.curve as usize;
+    let first = curves::entry(file, 16 + 804 * k, 0);
+    if too_fast(h, first, s) {
+        return 8;
+    }
+    0
+}
+
+// Rows 7 and 8, of the first n records.
+pub(crate) fn record_rows(file: &[u8], h: Head, n: usize) -> u64
+    requires { ⌜ Sized (now file) h ⌝ }
+    requires { ⌜ n ≤ h .size ⌝ }
+    ensures { λ r. ⌜ r ≡ firstOf (recordNumber (now (file .entry)) h) n ⌝ }
+{
+    let mut i = 0;
+    while i < n {
+        let r = record_row(file, h, i);
+        if r != 0 {
+            return r;
+        }
+        i += 1;
+    }
+    0
+}

@@ -1,0 +1,139 @@
+// A network kept in words, a word a number: rows 4, 6, 7 and 8. Places are those of docs/ARRANGEMENT.md.
+use crate::Head;
+use crate::Segment;
+use crate::heads;
+use crate::number;
+use crate::records;
+ghost use mathlib.Core.Path.{_≡_};
+ghost use Prim.Native.Nat.{_+_, _<_, _≤_};
+ghost use lib.ListN.{length};
+ghost use Rattle.laws.specs.First.{firstOf};
+ghost use Rattle.network.specs.Network.{curveNumber, segmentNumber, rowsNumber};
+ghost use Rattle.network.specs.Words.{headIn, entryIn, segmentIn};
+ghost use Rattle.network.specs.Accepted.{Kept, CurvesKept};
+
+pub(crate) fn head_in(kept: &[u64]) -> Head
+    requires { ⌜ 2560 ≤ length (now kept) ⌝ }
+    ensures { λ r. ⌜ r ≡ headIn (now (kept .entry)) ⌝ }
+{
+    Head {
+        step: kept[0],
+        size: kept[1],
+        curves: kept[2],
+        tau: kept[3],
+        nu: kept[4],
+        kappa: kept[5],
+        delta: kept[6],
+    }
+}
+
+pub(crate) fn segment_in(kept: &[u64], i: usize) -> Segment
+    requires { ⌜ (2560 ≤ length (now kept)) × (i < 40) ⌝ }
+    ensures { λ r. ⌜ r ≡ segmentIn (now (kept .entry)) i ⌝ }
+{
+    let at = 1624 + 16 * i;
+    Segment {
+        metres: kept[at],
+        lanes: kept[at + 1],
+        curve: kept[at + 2],
+        critical: kept[at + 3],
+        jam: kept[at + 4],
+        origin: kept[at + 5],
+        exit: kept[at + 6],
+        most: kept[at + 7],
+    }
+}
+
+// Entry j of curve k.
+fn entry_in(kept: &[u64], k: usize, j: usize) -> u64
+    requires { ⌜ (2560 ≤ length (now kept)) × (k < 8) × (j ≤ 200) ⌝ }
+    ensures { λ r. ⌜ r ≡ entryIn (now (kept .entry)) k j ⌝ }
+{
+    kept[16 + 201 * k + j]
+}
+
+// Row 6, of curve k.
+fn curve_row(kept: &[u64], k: usize) -> u64
+    requires { ⌜ (2560 ≤ length (now kept)) × (k < 8) ⌝ }
+    ensures { λ r. ⌜ r ≡ curveNumber (entryIn (now (kept .entry)) k) ⌝ }
+{
+    let mut last = entry_in(kept, k, 0);
+    if number::outside(1000, last, 200000) {
+        return 6;
+    }
+    let mut j = 0;
+    while j < 200 {
+        let next = entry_in(kept, k, j + 1);
+        if last < next {
+            return 6;
+        }
+        last = next;
+        j += 1;
+    }
+    0
+}
+
+fn curve_rows(kept: &[u64], c: usize) -> u64
+    requires { ⌜ (2560 ≤ length (now kept)) × (c ≤ 8) ⌝ }
+    ensures { λ r. ⌜ r ≡ firstOf (λ k. curveNumber (entryIn (now (kept .entry)) k)) c ⌝ }
+{
+    let mut k = 0;
+    while k < c {
+        let r = curve_row(kept, k);
+        if r != 0 {
+            return r;
+        }
+        k += 1;
+    }
+    0
+}
+
+fn segment_row(kept: &[u64], h: Head, i: usize) -> u64
+    requires { ⌜ CurvesKept (now kept) h ⌝ }
+    requires { ⌜ i < h .size ⌝ }
+    ensures { λ r. ⌜ r ≡ segmentNumber h (entryIn (now (kept .entry))) (segmentIn (now (kept .entry))) i ⌝ }
+{
+    let s = segment_in(kept, i);
+    if records::segment_bad(h, i as u64, s) {
+        return 7;
+    }
+    let first = entry_in(kept, s.curve as usize, 0);
+    if records::too_fast(h, first, s) {
+        return 8;
+    }
+    0
+}
+
+fn segment_rows(kept: &[u64], h: Head, n: usize) -> u64
+    requires { ⌜ CurvesKept (now kept) h ⌝ }
+    requires { ⌜ n ≤ h .size ⌝ }
+    ensures { λ r. ⌜ r ≡ firstOf (segmentNumber h (entryIn (now (kept .entry))) (segmentIn (now (kept .entry)))) n ⌝ }
+{
+    let mut i = 0;
+    while i < n {
+        let r = segment_row(kept, h, i);
+        if r != 0 {
+            return r;
+        }
+        i += 1;
+    }
+    0
+}
+
+// Rows 4, 6, 7 and 8.
+pub(crate) fn rows_number(kept: &[u64]) -> u64
+    requires { ⌜ 2560 ≤ length (now kept) ⌝ }
+    ensures { λ r. ⌜ r ≡ rowsNumber (headIn (now (kept .entry))) (entryIn (now (kept .entry))) (segmentIn (now (kept .entry))) ⌝ }
+{
+    let h = head_in(kept);
+    if heads::head_bad(h) {
+        return 4;
+    }
+    let c = h.curves as usize;
+    let n = h.size as usize;
+    let in_curves = curve_rows(kept, c);
+    if in_curves != 0 {
+        return in_curves;
+    }
+    segment_rows(kept, h, n)
+}

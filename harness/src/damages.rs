@@ -1,0 +1,96 @@
+//! Damages to a valid file or to a stored network, each with the number that
+//! it must bring.
+
+mod curves;
+mod head;
+mod length;
+mod records;
+mod stored;
+
+use crate::draft::Draft;
+use crate::networks::Shape;
+use crate::random::Random;
+use crate::words::Stored;
+use oracle::file::Network;
+
+/// The part of the file that a damage is done to.
+#[derive(Clone, Copy, PartialEq, Eq)]
+pub enum Part {
+    /// Head, or the file as a whole.
+    File,
+    Curve,
+    Record,
+    FirstRecord,
+    LaterRecord,
+    LastRecord,
+}
+
+/// A damage to `D`, a file or the words of a stored network.
+pub struct Damage<D: 'static> {
+    pub name: &'static str,
+    /// The number of the row that then applies.
+    pub number: u64,
+    pub part: Part,
+    /// Does the damage at a curve or record (from 0); 0 for the file.
+    pub apply: fn(&mut D, usize, &mut Random),
+}
+
+impl<D> Damage<D> {
+    /// What a network needs so that the damage can be done to it.
+    pub fn shape(&self) -> Shape {
+        Shape {
+            least_segments: if self.part == Part::LaterRecord { 2 } else { 1 },
+            binding: self.number == 8,
+        }
+    }
+
+    /// The curve or record to be damaged: both ends often.
+    pub fn place(&self, network: &Network, random: &mut Random) -> usize {
+        let last_curve = network.curves.len() as u64 - 1;
+        let last_record = network.segments.len() as u64 - 1;
+        let place = match self.part {
+            Part::File | Part::FirstRecord => 0,
+            Part::Curve => random.edge(0, last_curve),
+            Part::Record => random.edge(0, last_record),
+            Part::LaterRecord => random.edge(1, last_record),
+            Part::LastRecord => last_record,
+        };
+        place as usize
+    }
+}
+
+/// Every damage to a file.
+pub const FILE: [&[Damage<Draft>]; 4] = [
+    head::DAMAGES,
+    length::DAMAGES,
+    curves::DAMAGES,
+    records::DAMAGES,
+];
+
+/// Every damage to the words of a stored network.
+pub const STORED: [&[Damage<Stored>]; 1] = [stored::DAMAGES];
+
+/// The damage whose turn it is.
+pub fn in_turn<D>(tables: &[&'static [Damage<D>]], turn: u64) -> &'static Damage<D> {
+    let count = tables.iter().map(|table| table.len() as u64).sum::<u64>();
+    let mut all = tables.iter().copied().flatten();
+    all.nth((turn % count) as usize).expect("below the count")
+}
+
+/// Any damage that brings this number at this part, or at any part.
+pub fn any_of<D>(
+    tables: &[&'static [Damage<D>]],
+    number: u64,
+    part: Option<Part>,
+    random: &mut Random,
+) -> &'static Damage<D> {
+    let fits = |damage: &&Damage<D>| {
+        damage.number == number && part.is_none_or(|part| damage.part == part)
+    };
+    let fitting = tables.iter().copied().flatten().filter(fits);
+    let count = fitting.clone().count() as u64;
+    let mut fitting = fitting;
+    fitting
+        .nth(random.below(count) as usize)
+        .expect("below the count")
+}

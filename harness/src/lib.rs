@@ -1,0 +1,11 @@
+//! The proved engine and the oracle on the same inputs.
+
+pub mod bounds;
+pub mod compare;
+pub mod damages;
+pub mod draft;
+pub mod engine;
+pub mod networks;
+pub mod random;
+pub mod runner;
+pub mod words;

@@ -1,0 +1,94 @@
+//! Runs the tests and says in a line each how they went.
+
+use crate::compare::{Difference, Test, TESTS};
+use crate::random::Random;
+use std::{env, fs};
+
+/// Inputs that a test tries at least, so that every damage has its turn.
+const LEAST_INPUTS: u64 = 500;
+/// Inputs between two progress lines of a fuzz run.
+const PROGRESS: u64 = 1_000_000;
+
+/// Every test for its share of the files. Answers how many tests failed.
+pub fn compare(files: u64, seed: u64) -> usize {
+    let mut failed = 0;
+    for (number, test) in TESTS.iter().enumerate() {
+        let inputs = (files * test.share).div_ceil(100).max(LEAST_INPUTS);
+        let outcome = (0..inputs).try_for_each(|index| try_one(number, seed, index));
+        failed += usize::from(!say(test, inputs, outcome));
+    }
+    finish(failed)
+}
+
+/// The same inputs in turns by their shares, `total` in all; a test that has
+/// failed is left out from then on. Answers how many tests failed.
+pub fn fuzz(total: u64, seed: u64) -> usize {
+    let shares = TESTS.iter().enumerate();
+    let turns: Vec<usize> = shares
+        .flat_map(|(number, test)| vec![number; test.share as usize])
+        .collect();
+    let mut tried = [0; TESTS.len()];
+    let mut outcomes: [Outcome; TESTS.len()] = [const { Ok(()) }; TESTS.len()];
+    for input in 0..total {
+        let number = turns[(input % turns.len() as u64) as usize];
+        if outcomes[number].is_ok() {
+            outcomes[number] = try_one(number, seed, tried[number]);
+            tried[number] += 1;
+        }
+        if (input + 1) % PROGRESS == 0 {
+            println!("{} inputs, seed {seed}", input + 1);
+        }
+    }
+    let mut failed = 0;
+    for ((test, tried), outcome) in TESTS.iter().zip(tried).zip(outcomes) {
+        failed += usize::from(!say(test, tried, outcome));
+    }
+    finish(failed)
+}
+
+type Outcome = Result<(), Failure>;
+
+struct Failure {
+    difference: Difference,
+    seed: u64,
+    /// Which input of the test it was, from 0.
+    index: u64,
+}
+
+fn try_one(number: usize, seed: u64, index: u64) -> Outcome {
+    let mut random = Random::new(seed, number as u64, index);
+    (TESTS[number].one)(&mut random, index).map_err(|difference| Failure {
+        difference,
+        seed,
+        index,
+    })
+}
+
+/// One line for the test; the input of a failure goes to a file. Answers
+/// whether the test passed.
+fn say(test: &Test, inputs: u64, outcome: Outcome) -> bool {
+    let name = test.name;
+    let Err(failure) = outcome else {
+        println!("ok {name}: {inputs} inputs");
+        return true;
+    };
+    let Failure {
+        difference,
+        seed,
+        index,
+    } = failure;
+    let file = format!("differs-{}-{seed}-{index}.bin", name.replace(' ', "-"));
+    let path = env::temp_dir().join(file);
+    let kept = match fs::write(&path, &difference.input) {
+        Ok(()) => format!("input in {}", path.display()),
+        Err(error) => format!("input not kept: {error}"),
+    };
+    let what = difference.what;
+    println!("FAILED {name}: {what}; seed {seed}, input {index}; {kept}");
+    false
+}
+
+fn finish(failed: usize) -> usize {
+    println!("{} passed, {failed} failed", TESTS.len() - failed);
+    failed
+}

@@ -1,0 +1,13 @@
+//! The freeway study engine a second time, written from document 01 alone.
+//!
+//! It shares no code with the proved engine. The two are run against each
+//! other on many inputs; where they differ, one of them misreads the paper.
+
+pub mod book;
+pub mod case;
+pub mod file;
+pub mod network;
+mod ranges;
+pub mod refusal;
+pub mod step;
+pub mod stored;

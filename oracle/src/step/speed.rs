@@ -1,0 +1,109 @@
+//! The speed of a step, in binary64. Whole products are formed exactly and
+//! then converted; each operation rounds once, grouped as the paper brackets.
+
+use crate::case::Sign;
+use crate::network::{Curve, Network, Segment};
+
+/// Lowest speed of a segment, in m/h.
+const LEAST_SPEED: f64 = 1_000.0;
+
+/// A segment and its neighbours before the step.
+#[derive(Clone, Copy)]
+pub struct Before {
+    /// N, in mv.
+    pub count: u64,
+    /// v, in m/h.
+    pub speed: f64,
+    /// ρ, in veh/km/lane.
+    pub density: f64,
+    /// u: v of the segment before, in m/h.
+    pub upstream_speed: f64,
+    /// ρ': density of the next segment, in veh/km/lane.
+    pub density_ahead: f64,
+}
+
+/// v after the step, in m/h. `merging` is this step's release in mv at an
+/// origin past segment 1.
+pub fn new_speed(
+    network: &Network,
+    segment: &Segment,
+    sign: Sign,
+    before: Before,
+    merging: Option<u64>,
+) -> f64 {
+    let v = before.speed;
+    let curve = &network.curves[usize::from(segment.curve)];
+    let desired = desired_speed(curve, segment.lane_metres(), before.count, sign);
+    let step = u64::from(network.step);
+    let relaxation = u64::from(network.relaxation);
+    let length = u64::from(segment.length);
+    let crowding = before.density + f64::from(network.kappa);
+
+    let a = (whole(step) / whole(relaxation)) * (desired - v);
+    let b = ((whole(step) / whole(3600 * length)) * v) * (before.upstream_speed - v);
+    let anticipation = whole(u64::from(network.anticipation) * 1_000_000 * step);
+    let ahead = before.density_ahead - before.density;
+    let d = ((anticipation / whole(relaxation * length)) * ahead) / crowding;
+    let mut speed = ((v + a) + b) - d;
+    if let Some(release) = merging {
+        let merged = whole(u64::from(network.merging) * release);
+        let e = ((merged / whole(1000 * segment.lane_metres())) * v) / crowding;
+        speed -= e;
+    }
+    kept_in_range(speed, f64::from(curve[0]))
+}
+
+/// V: the speed that drivers aim at, by the curve and by the sign, in m/h.
+pub fn desired_speed(curve: &Curve, lane_metres: u64, count: u64, sign: Sign) -> f64 {
+    let by_curve = curve_speed(curve, lane_metres, count);
+    match sign {
+        Sign::Dark => by_curve,
+        Sign::Shown { limit, compliance } => by_curve.min(sign_speed(limit, compliance)),
+    }
+}
+
+/// The curve at density N ÷ G, in a straight line from entry to entry, in m/h.
+pub fn curve_speed(curve: &Curve, lane_metres: u64, count: u64) -> f64 {
+    let place = count / lane_metres;
+    if place >= 200 {
+        return f64::from(curve[200]);
+    }
+    let entry = curve[place as usize];
+    let fall = u64::from(entry - curve[place as usize + 1]);
+    f64::from(entry) - whole(fall * (count % lane_metres)) / whole(lane_metres)
+}
+
+/// limit × (1000 + a), in m/h.
+pub fn sign_speed(limit: u64, compliance: i64) -> f64 {
+    (limit as i64 * (1000 + compliance)) as f64
+}
+
+/// ρ = N ÷ G, in veh/km/lane.
+pub fn density(segment: &Segment, count: u64) -> f64 {
+    whole(count) / whole(segment.lane_metres())
+}
+
+/// ρ' of the last segment: its own density, but at most the critical one.
+pub fn density_past_end(segment: &Segment, count: u64, density: f64) -> f64 {
+    if count < u64::from(segment.critical) * segment.lane_metres() {
+        density
+    } else {
+        f64::from(segment.critical)
+    }
+}
+
+/// Stands in 1,000..F, is F above it, otherwise 1,000.
+fn kept_in_range(speed: f64, free_speed: f64) -> f64 {
+    if (LEAST_SPEED..=free_speed).contains(&speed) {
+        speed
+    } else if speed > free_speed {
+        free_speed
+    } else {
+        LEAST_SPEED
+    }
+}
+
+/// A whole figure made binary64. All are below 2⁵³, so that this is exact.
+fn whole(number: u64) -> f64 {
+    number as f64
+}

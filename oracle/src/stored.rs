@@ -1,0 +1,81 @@
+//! The network as it is stored in lent words, a word a number.
+//!
+//! Words 0..6 are T, n, c, τ, ν, κ, δ; entry j of curve k is word
+//! 16 + 201k + j; field f of record i (from 0) is word 1624 + 16i + f, the
+//! fields being L, H, curve, C, J, origin, X, Q. Other words are not read.
+
+use crate::network::{Curve, Network, ENTRIES};
+use crate::ranges::{judge_curve, judge_record, Head, Record};
+use crate::refusal::{ARRAYS, HEAD_FIELD};
+
+/// Words that the stored network may take.
+const NETWORK_WORDS: usize = 2560;
+const CURVES_AT: usize = 16;
+const RECORDS_AT: usize = 1624;
+const RECORD_WORDS: usize = 16;
+
+/// The network in the words, or the number that refuses it: 11 for too few
+/// words, else the first of rows 4, 6, 7 and 8.
+pub fn parse(words: &[u64]) -> Result<Network, u8> {
+    if words.len() < NETWORK_WORDS {
+        return Err(ARRAYS);
+    }
+    let head = judge(words)?;
+    let curves = (0..head.curves as usize).map(|curve| typed_curve(words, curve));
+    let records = (0..head.segments as usize).map(|place| stored_record(words, place));
+    let segments = records.map(|record| record.segment()).collect();
+    Ok(head.network(curves.collect(), segments))
+}
+
+/// Rows 4, 6, 7 and 8 on the stored numbers.
+fn judge(words: &[u64]) -> Result<Head, u8> {
+    let head = stored_head(words);
+    if !head.in_range() {
+        return Err(HEAD_FIELD);
+    }
+    for curve in 0..head.curves as usize {
+        judge_curve(stored_curve(words, curve).iter().copied())?;
+    }
+    for place in 0..head.segments as usize {
+        let record = stored_record(words, place);
+        let first_entry = |curve| stored_curve(words, curve)[0];
+        judge_record(&record, place as u64, &head, first_entry)?;
+    }
+    Ok(head)
+}
+
+fn stored_head(words: &[u64]) -> Head {
+    Head {
+        step: words[0],
+        segments: words[1],
+        curves: words[2],
+        relaxation: words[3],
+        anticipation: words[4],
+        kappa: words[5],
+        merging: words[6],
+    }
+}
+
+fn stored_curve(words: &[u64], curve: usize) -> &[u64] {
+    &words[CURVES_AT + ENTRIES * curve..][..ENTRIES]
+}
+
+fn stored_record(words: &[u64], place: usize) -> Record {
+    let fields = &words[RECORDS_AT + RECORD_WORDS * place..][..RECORD_WORDS];
+    Record {
+        length: fields[0],
+        lanes: fields[1],
+        curve: fields[2],
+        critical: fields[3],
+        jam: fields[4],
+        origin: fields[5],
+        exit_share: fields[6],
+        most_released: fields[7],
+    }
+}
+
+/// A judged curve: every entry fits 32 bits.
+fn typed_curve(words: &[u64], curve: usize) -> Curve {
+    let entries = stored_curve(words, curve);
+    std::array::from_fn(|entry| entries[entry] as u32)
+}

@@ -87,10 +87,8 @@ pub fn any_of<D>(
     let fits = |damage: &&Damage<D>| {
         damage.number == number && part.is_none_or(|part| damage.part == part)
     };
-    let fitting = tables.iter().copied().flatten().filter(fits);
+    let mut fitting = tables.iter().copied().flatten().filter(fits);
     let count = fitting.clone().count() as u64;
-    let mut fitting = fitting;
-    fitting
-        .nth(random.below(count) as usize)
-        .expect("below the count")
+    let turn = random.below(count) as usize;
+    fitting.nth(turn).expect("below the count")
 }

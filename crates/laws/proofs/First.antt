@@ -1,9 +1,9 @@
 -- Laws of first refusals: what acceptance says, and the ends of a loop that looks for the first.
-use Prim.Native.Nat.{ℕ, zero, suc, _+_, _<_, _≤_}
+use Prim.Native.Nat.{ℕ, zero, suc, _+_, _*_, _<_, _≤_}
 use mathlib.Core.Bool.{Bool, true, false}
 use mathlib.Core.Path.{_≡_, refl, sym, ap, _∙_}
 use mathlib.Core.Logic.{⊎-elim}
-use native.Mathlib.Nat.{le-of-suc-le-suc, not-suc-le-zero, suc-ne-zero, eq-or-lt-of-le, le-antisymm, lt-trans, lt-suc-self}
+use native.Mathlib.Nat.{le-of-suc-le-suc, not-suc-le-zero, suc-ne-zero, eq-or-lt-of-le, le-antisymm, lt-trans, lt-suc-self, add-zero, add-suc, mul-zero, mul-suc}
 use native.Mathlib.Numerals.{add-one}
 use Rattle.laws.specs.First.{row, first, firstOf, ifAccepted}
 
@@ -112,3 +112,31 @@ pub firstOf-ext : (f g : ℕ → ℕ) (n : ℕ) → ((i : ℕ) → i < n → f i
 unfolding firstOf
 firstOf-ext f g zero h = refl
 firstOf-ext f g (suc n) h = λ j. first (firstOf-ext f g n (λ i k. h i (lt-trans k (lt-suc-self n))) j) (h n (lt-suc-self n) j)
+
+-- ---- m at a time
+
+first-assoc : (a b c : ℕ) → first (first a b) c ≡ first a (first b c)
+unfolding first
+first-assoc zero b c = refl
+first-assoc (suc a) b c = refl
+
+-- the first of m + n is the first of the first m, then of the n after them
+firstOf-add : (f : ℕ → ℕ) (m n : ℕ) → firstOf f (m + n) ≡ first (firstOf f m) (firstOf (λ i. f (m + i)) n)
+unfolding firstOf
+firstOf-add f m zero = ap (firstOf f) (add-zero m) ∙ sym (first-none (firstOf f m))
+  where
+    first-none : (a : ℕ) → first a 0 ≡ a
+    first-none zero = unfold first in refl
+    first-none (suc a) = unfold first in refl
+firstOf-add f m (suc n) =
+    ap (firstOf f) (add-suc m n)
+    ∙ ap (λ (x : ℕ). first x (f (m + n))) (firstOf-add f m n)
+    ∙ first-assoc (firstOf f m) (firstOf (λ i. f (m + i)) n) (f (m + n))
+
+pub firstOf-blocks : (f : ℕ → ℕ) (m n : ℕ) → firstOf (λ k. firstOf (λ i. f (m * k + i)) m) n ≡ firstOf f (m * n)
+unfolding firstOf
+firstOf-blocks f m zero = ap (firstOf f) (sym (mul-zero m))
+firstOf-blocks f m (suc n) =
+    ap (λ (x : ℕ). first x (firstOf (λ i. f (m * n + i)) m)) (firstOf-blocks f m n)
+    ∙ sym (firstOf-add f (m * n) m)
+    ∙ ap (firstOf f) (sym (mul-suc m n))

@@ -3,11 +3,16 @@ use Prim.Native.Nat.{ℕ, _+_, _*_, _≤_, _<_}
 use mathlib.Core.Bool.{Bool, true, false, _||_, not}
 use mathlib.Core.List.{List, []}
 use mathlib.Core.Path.{_≡_, refl, sym, ap, _∙_}
-use lib.Dec.{ltb, eqb, lit<}
+use native.Mathlib.Omega.{arith}
+use native.Mathlib.Nat.{add-zero}
+use lib.Dec.{ltb}
 use lib.ListN.{length, getD}
 use borrow.Author.Tests.{ltb-false, eqb-true, not-false}
 use Rattle.laws.specs.First.{row, first, firstOf}
+use Rattle.laws.specs.Lists.{part}
 use Rattle.laws.specs.BigEndian.{u16At}
+use Rattle.laws.proofs.Lists.{part-at}
+use Rattle.laws.proofs.BigEndian.{part-u16, part-u32}
 use Rattle.laws.proofs.Tests.{or-left, or-right}
 use Rattle.laws.proofs.First.{row-passed, row-later, row-skipped, row-applies, first-some, first-zero, first-zero-left, first-zero-right, firstOf-zero, firstOf-all}
 use Rattle.network.specs.declared.Head.{Head}
@@ -44,6 +49,24 @@ head-accepted b e =
       padding = or-right (headBad (headOf b)) _ (row-passed _ _ _ e4);
       sized = record { within = head-within (headOf b) fields; long = eqb-true _ _ (not-false _ (row-passed _ _ _ e5)) };
     }
+
+-- ---- a record is read in the 16 bytes that it fills
+
+module _ (b : List ℕ) (at : ℕ) where
+  pub segment-part : segmentAt b at ≡ segmentAt (part at 16 b) 0
+  segment-part = sym (λ j. record {
+    metres = (part-u16 b at 16 0 (omega arith) ∙ ap (u16At b) (add-zero at)) j;
+    lanes = part-at b at 16 2 0 (omega arith) j;
+    curve = part-at b at 16 3 0 (omega arith) j;
+    critical = part-at b at 16 4 0 (omega arith) j;
+    jam = part-at b at 16 5 0 (omega arith) j;
+    origin = part-at b at 16 6 0 (omega arith) j;
+    exit = part-u16 b at 16 8 (omega arith) j;
+    most = part-u32 b at 16 10 (omega arith) j;
+  })
+
+  pub padding-part : recordPadding b at ≡ recordPadding (part at 16 b) 0
+  padding-part = sym (λ j. ltb 0 (part-at b at 16 7 0 (omega arith) j) || ltb 0 (part-u16 b at 16 14 (omega arith) j))
 
 -- ---- the file: which part refuses it
 

@@ -13,8 +13,8 @@ use Rattle.laws.specs.First.{row, first, firstOf}
 use Rattle.laws.specs.Lists.{part, parts}
 use Rattle.laws.specs.BigEndian.{byteAt, u16At, u32At, low, u32Bytes}
 use Rattle.laws.proofs.First.{row-passed, row-skipped, first-zero, firstOf-all}
-use Rattle.laws.proofs.Lists.{parts-at, length-parts, part-at}
-use Rattle.laws.proofs.BigEndian.{low-byte, two-back, four-back, length-u32, u32-back, part-u16, part-u32}
+use Rattle.laws.proofs.Lists.{parts-at, length-parts}
+use Rattle.laws.proofs.BigEndian.{low-byte, two-back, four-back, length-u32, u32-back, part-u32}
 use Rattle.network.specs.declared.Head.{Head}
 use Rattle.network.specs.declared.Segment.{Segment}
 use Rattle.network.specs.Network.{Network, networkFrom, entryOf, segmentOf, headBad, segmentBad, fieldThenSpeed, segmentNumber, rowsNumber, networkNumber}
@@ -22,6 +22,7 @@ use Rattle.network.specs.File.{headOf, hasMark, versionOf, headPadding, 
 use Rattle.network.specs.Written.{headBytes, segmentBytes, fileOf}
 use Rattle.network.specs.Accepted.{HeadWithin, SegmentWithin, RowsWithin, Formed}
 use Rattle.network.proofs.Rows.{rows-within, entry-high, head-passed, curves-passed, segments-passed}
+use Rattle.network.proofs.File.{segment-part, padding-part}
 use Rattle.network.proofs.From.{from-held, curve-same}
 use Rattle.network.proofs.Writing.{length-head-bytes, length-segment-bytes}
 
@@ -41,29 +42,11 @@ module _ (h : Head) (i : ℕ) (s : Segment) (w : SegmentWithin h i s) (c : h .cu
       let most = four-back (s .most) (omega (arith, w)) in
       λ j. record { metres = metres j; lanes = lanes j; curve = curve j; critical = critical j; jam = jam j; origin = origin j; exit = exit j; most = most j }
 
--- ---- a record is read in the 16 bytes that it fills
-
-module _ (b : List ℕ) (at : ℕ) where
-  segment-part : segmentAt b at ≡ segmentAt (part at 16 b) 0
-  segment-part = sym (λ j. record {
-    metres = (part-u16 b at 16 0 (omega arith) ∙ ap (u16At b) (add-zero at)) j;
-    lanes = part-at b at 16 2 0 (omega arith) j;
-    curve = part-at b at 16 3 0 (omega arith) j;
-    critical = part-at b at 16 4 0 (omega arith) j;
-    jam = part-at b at 16 5 0 (omega arith) j;
-    origin = part-at b at 16 6 0 (omega arith) j;
-    exit = part-u16 b at 16 8 (omega arith) j;
-    most = part-u32 b at 16 10 (omega arith) j;
-  })
-
-  padding-part : recordPadding b at ≡ recordPadding (part at 16 b) 0
-  padding-part = sym (λ j. ltb 0 (part-at b at 16 7 0 (omega arith) j) || ltb 0 (part-u16 b at 16 14 (omega arith) j))
+-- ---- the whole file
 
 padding-none : (s : Segment) → recordPadding (segmentBytes s) 0 ≡ false
 unfolding segmentBytes
 padding-none s = refl
-
--- ---- the whole file
 
 module _ (w : Network) (z : networkNumber w ≡ 0) where
   abbrev h : Head

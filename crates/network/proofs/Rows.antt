@@ -4,13 +4,14 @@ use mathlib.Core.Bool.{Bool, true, false, _||_, _&&_}
 use mathlib.Core.Path.{_≡_, refl, sym, ap, _∙_}
 use mathlib.Core.Logic.{⊎-elim}
 use native.Mathlib.Omega.{arith}
-use native.Mathlib.Nat.{eq-or-lt-of-le}
+use native.Mathlib.Nat.{eq-or-lt-of-le, add-zero, add-assoc}
+use native.Mathlib.Numerals.{add-one}
 use lib.Dec.{ltb, eqb, leb}
 use lib.ListN.{getD}
 use borrow.Author.Tests.{le-leb, lt-leb, lt-ltb, le-ltb, ltb-false, leb-false, eqb-true, eqb-false, eq-eqb, ne-eqb}
 use Rattle.laws.specs.First.{outside, row, first, firstOf}
 use Rattle.laws.proofs.Tests.{or-left, or-right, and-false, anyOf-false, inside-low, inside-high, inside}
-use Rattle.laws.proofs.First.{row-passed, row-later, row-applies, row-skipped, first-zero, first-some, first-zero-left, first-zero-right, firstOf-none, firstOf-zero, firstOf-all, firstOf-found, firstOf-passed, firstOf-end}
+use Rattle.laws.proofs.First.{row-passed, row-later, row-applies, row-skipped, first-zero, first-some, first-zero-left, first-zero-right, firstOf-none, firstOf-zero, firstOf-all, firstOf-found, firstOf-passed, firstOf-end, firstOf-blocks}
 use Rattle.network.specs.declared.Head.{Head}
 use Rattle.network.specs.declared.Segment.{Segment}
 use Rattle.network.specs.Network.{headBad, rising, curveNumber, segmentBad, tooFast, fieldThenSpeed, segmentNumber, rowsNumber}
@@ -73,40 +74,62 @@ module _ (e : ℕ → ℕ) where
   entry-high w (suc j) l = omega (arith, entry-high w j (omega arith), falls-suc j (omega arith))
     where
       falls-suc : (j : ℕ) → j < 200 → e (suc j) ≤ e j
-      falls-suc j h = rw (sym (native.Mathlib.Numerals.add-one j)) (w .falls j h)
+      falls-suc j h = rw (sym (add-one j)) (w .falls j h)
 
-  -- the ends of the loop over a curve's entries: it is refused at its start, or at a turn, or it passes. `last` and `next` are entries j and j + 1
-  -- as the code read them
-  pub record Falling (j last : ℕ) : Type 0 where
-    pub within : j ≤ 200
-    pub last-is : last ≡ e j
+  -- ---- the loop over a curve's entries, five a turn
+
+  -- the value of the test that the entry after entry j is above it
+  abbrev pub above : ℕ → Bool
+  above j = ltb (e j) (e (j + 1))
+
+  -- row 6 of the five entries after entry j
+  abbrev pub fiveRising : ℕ → ℕ
+  fiveRising j = firstOf (λ i. rising e (j + i)) 5
+
+  five-tests : (j : ℕ) → fiveRising j ≡ row (above j) 6 (row (above (j + 1)) 6 (row (above (j + 2)) 6 (row (above (j + 3)) 6 (row (above (j + 4)) 6 0))))
+  unfolding firstOf rising
+  five-tests j = rw add-zero (chain (above j) (above (j + 1)) (above (j + 2)) (above (j + 3)) (above (j + 4)))
+    where
+      chain : (p q r s t : Bool) → first (first (first (first (first 0 (row p 6 0)) (row q 6 0)) (row r 6 0)) (row s 6 0)) (row t 6 0) ≡ row p 6 (row q 6 (row r 6 (row s 6 (row t 6 0))))
+      chain true q r s t = unfold first row in refl
+      chain false true r s t = unfold first row in refl
+      chain false false true s t = unfold first row in refl
+      chain false false false true t = unfold first row in refl
+      chain false false false false t = unfold first row in refl
+
+  -- what the code makes of six entries that it read
+  pub five-read : (j : ℕ) {r u v w x y z : ℕ} → r ≡ row (ltb u v) 6 (row (ltb v w) 6 (row (ltb w x) 6 (row (ltb x y) 6 (row (ltb y z) 6 0))))
+      → u ≡ e j → v ≡ e (j + 1) → w ≡ e (j + 2) → x ≡ e (j + 3) → y ≡ e (j + 4) → z ≡ e (j + 5) → r ≡ fiveRising j
+  five-read j is u v w x y z =
+      is
+      ∙ (λ i. row (ltb (u i) (v i)) 6 (row (ltb (v i) (w i)) 6 (row (ltb (w i) (x i)) 6 (row (ltb (x i) (y i)) 6 (row (ltb (y i) (z i)) 6 0)))))
+      ∙ sym (five-tests j ∙ simp add-assoc)
+
+  -- the loop's invariant: none of the first k fives is refused
+  pub record Falling (k : ℕ) : Type 0 where
+    pub within : k ≤ 40
     pub starts : outside 1000 (e 0) 200000 ≡ false
-    pub none : firstOf (rising e) j ≡ 0
+    pub none : firstOf (λ k. fiveRising (5 * k)) k ≡ 0
 
-  pub curve-refused : {first : ℕ} → first ≡ e 0 → outside 1000 first 200000 ≡ true → 6 ≡ curveNumber e
+  curve-fives : outside 1000 (e 0) 200000 ≡ false → firstOf (λ k. fiveRising (5 * k)) 40 ≡ curveNumber e
+  curve-fives h = firstOf-blocks (rising e) 5 40 ∙ sym (curve-starts-in h)
+
+  pub curve-refused : outside 1000 (e 0) 200000 ≡ true → 6 ≡ curveNumber e
   unfolding curveNumber
-  curve-refused {first} is h = sym (row-applies _ _ _ (rw is at h))
+  curve-refused h = sym (row-applies _ _ _ h)
 
-  pub curve-begun : {first : ℕ} → first ≡ e 0 → outside 1000 first 200000 ≡ false → Falling 0 first
-  curve-begun {first} is h = record { within = omega arith; last-is = is; starts = rw is at h; none = firstOf-none (rising e) }
+  pub curve-begun : outside 1000 (e 0) 200000 ≡ false → Falling 0
+  curve-begun h = record { within = omega arith; starts = h; none = firstOf-none _ }
 
-  module _ {j last next : ℕ} (t : Falling j last) (is : next ≡ e (j + 1)) (more : j < 200) where
-    pub curve-rises : last < next → 6 ≡ curveNumber e
-    curve-rises up =
-        let six : 6 ≡ rising e j = sym (rising-is j (omega (arith, t .last-is, is, up))) in
-        firstOf-found (rising e) 200 j more (t .none) six (λ z. omega (arith, z)) ∙ sym (curve-starts-in (t .starts))
+  module _ {k r : ℕ} (t : Falling k) (is : r ≡ fiveRising (5 * k)) (more : k < 40) where
+    pub curve-rises : (r ≡ 0 → ⊥) → r ≡ curveNumber e
+    curve-rises some = firstOf-found (λ k. fiveRising (5 * k)) 40 k more (t .none) is some ∙ curve-fives (t .starts)
 
-    pub curve-falls : next ≤ last → Falling (j + 1) next
-    curve-falls down =
-        record {
-          within = omega arith;
-          last-is = is;
-          starts = t .starts;
-          none = firstOf-passed (rising e) j (t .none) (sym (rising-not j (omega (arith, t .last-is, is, down)))) refl;
-        }
+    pub curve-falls : r ≡ 0 → Falling (k + 1)
+    curve-falls z = record { within = omega arith; starts = t .starts; none = firstOf-passed (λ k. fiveRising (5 * k)) k (t .none) is z }
 
-  pub curve-passes : {j last : ℕ} → Falling j last → 200 ≤ j → 0 ≡ curveNumber e
-  curve-passes {j} {last} t end = firstOf-end (rising e) 200 j (t .within) end (t .none) ∙ sym (curve-starts-in (t .starts))
+  pub curve-passes : {k : ℕ} → Falling k → 40 ≤ k → 0 ≡ curveNumber e
+  curve-passes {k} t end = firstOf-end (λ k. fiveRising (5 * k)) 40 k (t .within) end (t .none) ∙ curve-fives (t .starts)
 
 -- ---- row 7
 

@@ -4,7 +4,7 @@ ghost use mathlib.Core.Path.{_≡_};
 ghost use Prim.Native.Nat.{_+_, _*_, _<_, _≤_};
 ghost use lib.ListN.{length};
 ghost use Rattle.laws.specs.First.{firstOf};
-ghost use Rattle.network.specs.Network.{curveNumber};
+ghost use Rattle.network.specs.Network.{rising, curveNumber};
 ghost use Rattle.network.specs.File.{curveStart, curveIn, entryAt};
 
 // Entry j of the curve at place at.
@@ -15,22 +15,35 @@ pub(crate) fn entry(file: &[u8], at: usize, j: usize) -> u64
     number::u32_in(file, at + 4 * j)
 }
 
+// Row 6, of the five entries after entry j.
+fn five_row(file: &[u8], at: usize, j: usize) -> u64
+    requires { ⌜ at + 4 * j + 24 ≤ length (now file) ⌝ }
+    ensures { λ r. ⌜ r ≡ firstOf (λ i. rising (entryAt (now (file .entry)) at) (j + i)) 5 ⌝ }
+{
+    number::five_rising(
+        entry(file, at, j),
+        entry(file, at, j + 1),
+        entry(file, at, j + 2),
+        entry(file, at, j + 3),
+        entry(file, at, j + 4),
+        entry(file, at, j + 5),
+    )
+}
+
 fn curve_row(file: &[u8], at: usize) -> u64
     requires { ⌜ at + 804 ≤ length (now file) ⌝ }
     ensures { λ r. ⌜ r ≡ curveNumber (entryAt (now (file .entry)) at) ⌝ }
 {
-    let mut last = entry(file, at, 0);
-    if number::outside(1000, last, 200000) {
+    if number::outside(1000, entry(file, at, 0), 200000) {
         return 6;
     }
-    let mut j = 0;
-    while j < 200 {
-        let next = entry(file, at, j + 1);
-        if last < next {
-            return 6;
+    let mut k = 0;
+    while k < 40 {
+        let r = five_row(file, at, 5 * k);
+        if r != 0 {
+            return r;
         }
-        last = next;
-        j += 1;
+        k += 1;
     }
     0
 }

@@ -2,7 +2,8 @@
 ghost use mathlib.Core.Path.{_≡_};
 ghost use Prim.Native.Nat.{_+_, _%_, _<_, _≤_};
 ghost use lib.ListN.{length};
-ghost use Rattle.laws.specs.First.{outside};
+ghost use lib.Dec.{ltb};
+ghost use Rattle.laws.specs.First.{row, outside};
 ghost use Rattle.laws.specs.BigEndian.{byteAt, u16At, u32At, low};
 
 pub(crate) fn wide(x: u8) -> u64
@@ -57,4 +58,27 @@ pub(crate) fn outside(least: u64, x: u64, most: u64) -> bool
     ensures { λ r. ⌜ r ≡ outside least x most ⌝ }
 {
     (x < least) | (most < x)
+}
+
+// Row 6, of five entries of a curve, b to f, each against the one before it. Curves are judged five entries at a time, so that the
+// loop costs little beside its tests.
+pub(crate) fn five_rising(a: u64, b: u64, c: u64, d: u64, e: u64, f: u64) -> u64
+    ensures { λ r. ⌜ r ≡ row (ltb a b) 6 (row (ltb b c) 6 (row (ltb c d) 6 (row (ltb d e) 6 (row (ltb e f) 6 0)))) ⌝ }
+{
+    if a < b {
+        return 6;
+    }
+    if b < c {
+        return 6;
+    }
+    if c < d {
+        return 6;
+    }
+    if d < e {
+        return 6;
+    }
+    if e < f {
+        return 6;
+    }
+    0
 }

@@ -69,8 +69,9 @@ fn record_row(file: &[u8], h: Head, i: usize) -> u64
 {
     let c = h.curves as usize;
     let at = 16 + 804 * c + 16 * i;
-    let s = read_segment(file, at);
-    if segment_bad(h, i as u64, s) | record_padding(file, at) {
+    let record = &file[at..at + 16];
+    let s = read_segment(record, 0);
+    if segment_bad(h, i as u64, s) | record_padding(record, 0) {
         return 7;
     }
     let k = s.curve as usize;

@@ -8,7 +8,7 @@ ghost use mathlib.Core.Path.{_≡_};
 ghost use Prim.Native.Nat.{_+_, _<_, _≤_};
 ghost use lib.ListN.{length};
 ghost use Rattle.laws.specs.First.{firstOf};
-ghost use Rattle.network.specs.Network.{curveNumber, segmentNumber, rowsNumber};
+ghost use Rattle.network.specs.Network.{rising, curveNumber, segmentNumber, rowsNumber};
 ghost use Rattle.network.specs.Words.{headIn, entryIn, segmentIn};
 ghost use Rattle.network.specs.Accepted.{Kept, CurvesKept};
 
@@ -52,23 +52,36 @@ fn entry_in(kept: &[u64], k: usize, j: usize) -> u64
     kept[16 + 201 * k + j]
 }
 
+// Row 6, of the five entries after entry j.
+fn five_row(kept: &[u64], k: usize, j: usize) -> u64
+    requires { ⌜ (2560 ≤ length (now kept)) × (k < 8) × (j ≤ 195) ⌝ }
+    ensures { λ r. ⌜ r ≡ firstOf (λ i. rising (entryIn (now (kept .entry)) k) (j + i)) 5 ⌝ }
+{
+    number::five_rising(
+        entry_in(kept, k, j),
+        entry_in(kept, k, j + 1),
+        entry_in(kept, k, j + 2),
+        entry_in(kept, k, j + 3),
+        entry_in(kept, k, j + 4),
+        entry_in(kept, k, j + 5),
+    )
+}
+
 // Row 6, of curve k.
 fn curve_row(kept: &[u64], k: usize) -> u64
     requires { ⌜ (2560 ≤ length (now kept)) × (k < 8) ⌝ }
     ensures { λ r. ⌜ r ≡ curveNumber (entryIn (now (kept .entry)) k) ⌝ }
 {
-    let mut last = entry_in(kept, k, 0);
-    if number::outside(1000, last, 200000) {
+    if number::outside(1000, entry_in(kept, k, 0), 200000) {
         return 6;
     }
-    let mut j = 0;
-    while j < 200 {
-        let next = entry_in(kept, k, j + 1);
-        if last < next {
-            return 6;
+    let mut m = 0;
+    while m < 40 {
+        let r = five_row(kept, k, 5 * m);
+        if r != 0 {
+            return r;
         }
-        last = next;
-        j += 1;
+        m += 1;
     }
     0
 }

@@ -41,11 +41,7 @@ pub fn one(random: &mut Random, index: u64) -> Result<(), Difference> {
 fn numbers(file: &[u8], curve: u64, expected: u64) -> Result<(), Difference> {
     let engine = engine::curve_number(file, curve);
     let oracle = u64::from(file::curve_number(file, curve));
-    let offset = HEAD as u64 + CURVE as u64 * (curve % 8);
-    let place = match expected {
-        0 => Some((offset as usize, CURVE)),
-        _ => None,
-    };
+    let place = (expected == 0).then(|| (HEAD + CURVE * curve as usize, CURVE));
     if engine == expected && oracle == expected && file::curve(file, curve) == place {
         return Ok(());
     }

@@ -5,6 +5,15 @@ use crate::networks;
 use oracle::case::{Alinea, Case, SegmentState, Setting, Sign};
 use oracle::step::{flows, speed, step};
 
+/// Arrivals of five steps, in mv.
+const ARRIVALS: [[u32; 3]; 5] = [
+    [9_000, 2_500, 0],
+    [9_500, 3_100, 0],
+    [0, 7, 0],
+    [12_000, 2_500, 0],
+    [9_000, 2_500, 0],
+];
+
 /// Steps, mv in segments, in queues, arrivals, exits and time.
 fn tally(case: &Case) -> [u64; 6] {
     [
@@ -83,14 +92,7 @@ fn sign_and_curve_whichever_is_less() {
 fn three_segments_for_five_steps() {
     let network = networks::three_segments();
     let mut case = three_segment_start();
-    let arrivals = [
-        [9_000, 2_500, 0],
-        [9_500, 3_100, 0],
-        [0, 7, 0],
-        [12_000, 2_500, 0],
-        [9_000, 2_500, 0],
-    ];
-    for arrivals in &arrivals {
+    for arrivals in &ARRIVALS {
         step(&network, &mut case, arrivals);
     }
     let figures = |figure: fn(&SegmentState) -> u64| {
@@ -105,6 +107,25 @@ fn three_segments_for_five_steps() {
     assert_eq!(figures(|state| state.last_outflow), [6_488, 10_654, 17_011]);
     assert_eq!(figures(|state| state.last_release), [9_000, 5_500, 0]);
     assert_eq!(tally(&case), [5, 144_822, 7_054, 50_107, 86_250, 8_741_450]);
+}
+
+/// The same for forty steps. The bits of all speeds on the way are folded
+/// into one number: it tells any other order of A, B, D and E apart.
+#[test]
+fn three_segments_for_forty_steps() {
+    let network = networks::three_segments();
+    let mut case = three_segment_start();
+    let mut folded = 0_u64;
+    for arrivals in ARRIVALS.iter().cycle().take(40) {
+        step(&network, &mut case, arrivals);
+        for state in &case.segments {
+            folded = folded
+                .wrapping_mul(0x100_0000_01b3)
+                .wrapping_add(state.speed.to_bits());
+        }
+    }
+    assert_eq!(folded, 0x50cb_0f79_a359_0c3f);
+    assert_eq!(tally(&case), [40, 95_757, 0, 400_856, 493_118, 47_215_140]);
 }
 
 /// A jam ahead would bring the speed below 1,000 m/h, an empty road ahead of

@@ -1,4 +1,4 @@
--- The entries fall up to j, and `last` is entry j. The measure is what is left of the 200.
+-- The start is in range, and none of the first k fives is refused. The measure is how many of the 40 are left.
 use Prim.Native.Nat.{ℕ, _-_}
 use borrow.Author.Needs.{needs}
 use mathlib.Core.Path.{_≡_, sym, ap, _∙_}
@@ -9,26 +9,33 @@ use Rattle.network.proofs.curves.curve_row.Statement.{statement}
 use Rattle.network.proofs.curves.curve_row.Tie as tie
 
 abbrev Inv-loop : tie.InvT-loop
-Inv-loop file at last₀ j₀ last j = Falling (entryAt file at) j last
+Inv-loop file at k₀ k = Falling (entryAt file at) k
 
 abbrev μ-loop : tie.MeasureT-loop
-μ-loop file at last₀ j₀ last j = 200 - j
+μ-loop file at k₀ k = 40 - k
+
+-- the value of the first test
+started :
+    (c : tie.After-outside Inv-loop μ-loop) →
+    let a = c .before .before .before .args in
+    outside 1000 (entryAt (a .file .now) (a .at) 0) 200000 ≡ c .outside .result
+started c = sym (c .outside .ensures ∙ ap (λ (x : ℕ). outside 1000 x 200000) (c .before .entry .ensures .0))
 
 returns : tie.Need-returns Inv-loop μ-loop
-returns c = let t = c .before in curve-refused _ (t .before .entry .ensures .0) (sym (t .outside .ensures) ∙ c .if1 .taken)
+returns c = curve-refused _ (started (c .before) ∙ c .if1 .taken)
 
 loop-holds : tie.Need-loop-holds Inv-loop μ-loop
-loop-holds c = let t = c .before in curve-begun _ (t .before .entry .ensures .0) (sym (t .outside .ensures) ∙ c .if1 .left)
+loop-holds c = curve-begun _ (started (c .before) ∙ c .if1 .left)
 
 returns-2 : tie.Need-returns-2 Inv-loop μ-loop
 returns-2 c =
     let l = c .before .before .before in
-    curve-rises _ (l .loop .inv) (c .before .entry2 .ensures .0) (c .before .before .loop-test .taken) (c .if2 .taken)
+    curve-rises _ (l .loop .inv) (c .before .five-row .ensures) (c .before .before .loop-test .taken) (c .if2 .taken)
 
 loop-again : tie.Need-loop-again Inv-loop μ-loop
 loop-again c =
     let l = c .before .before .before in
-    curve-falls _ (l .loop .inv) (c .before .entry2 .ensures .0) (c .before .before .loop-test .taken) (c .if2 .left)
+    curve-falls _ (l .loop .inv) (c .before .five-row .ensures) (c .before .before .loop-test .taken) (c .if2 .left)
 
 returns-3 : tie.Need-returns-3 Inv-loop μ-loop
 returns-3 c = curve-passes _ (c .before .loop .inv) (c .loop-test .left)

@@ -3,27 +3,45 @@ use mathlib.Core.Path.{_≡_, refl, sym, ap, _∙_}
 use mathlib.Core.Bool.{Bool, true, false, _||_}
 use native.Mathlib.Omega.{arith}
 use denote.Ref.{now}
+use Prim.Native.Nat.{ℕ}
+use Rattle.laws.specs.Lists.{part}
 use Rattle.laws.proofs.Tests.{or-left}
+use Rattle.laws.proofs.Lists.{span}
 use Rattle.network.specs.declared.Segment.{Segment}
 use Rattle.network.specs.Network.{segmentBad, tooFast, fieldThenSpeed}
 use Rattle.network.specs.File.{recordNumber, recordPadding, recordStart, segmentAt, entryAt, curveStart}
 use Rattle.network.specs.Accepted.{SegmentWithin}
 use Rattle.network.proofs.Rows.{segment-within, field-refused, speed-refused, speed-passed}
+use Rattle.network.proofs.File.{segment-part, padding-part}
 use borrow.Author.Needs.{needs}
 use Rattle.network.proofs.records.record_row.Statement.{statement}
 use Rattle.network.proofs.records.record_row.Tie as tie
 
+-- s, which was read in the record's part, is what stands in the file
+read :
+    (c : tie.After-read-segment) →
+    let a = c .before .before .before .args in
+    c .read-segment .result ≡ segmentAt (now (a .file)) (recordStart (a .h) (a .i))
+read c =
+    let a = c .before .before .before .args in
+    let at = recordStart (a .h) (a .i) in
+    c .read-segment .ensures ∙ ap (λ (k : ℕ). segmentAt (part at k (now (a .file))) 0) (span at 16) ∙ sym (segment-part (now (a .file)) at)
+
 -- the value of row 7's test
 fields :
     (c : tie.After-record-padding) →
-    let a = c .before .before .before .before .args in
+    let a = c .before .before .before .before .before .args in
     let at = recordStart (a .h) (a .i) in
     (segmentBad (a .h) (a .i) (segmentAt (now (a .file)) at) || recordPadding (now (a .file)) at) ≡ (c .before .segment-bad .result || c .record-padding .result)
-fields c = sym (rw (c .before .segment-bad .ensures, c .record-padding .ensures, c .before .before .read-segment .ensures))
+fields c =
+    let a = c .before .before .before .before .before .args in
+    let at = recordStart (a .h) (a .i) in
+    let zeros = c .record-padding .ensures ∙ ap (λ (k : ℕ). recordPadding (part at k (now (a .file))) 0) (span at 16) ∙ sym (padding-part (now (a .file)) at) in
+    sym (rw (c .before .segment-bad .ensures, zeros, read (c .before .before)))
 
 within :
     (c : tie.Else1) →
-    let a = c .before .before .before .before .before .args in
+    let a = c .before .before .before .before .before .before .args in
     SegmentWithin (a .h) (a .i) (c .before .before .before .read-segment .result)
 within c =
     segment-within _ _ _ (sym (c .before .before .segment-bad .ensures) ∙ or-left _ (c .before .record-padding .result) (c .if1 .left))
@@ -31,10 +49,10 @@ within c =
 -- the value of row 8's test
 speed :
     (c : tie.After-too-fast) →
-    let a = c .before .before .before .before .before .before .before .args in
+    let a = c .before .before .before .before .before .before .before .before .args in
     let s = segmentAt (now (a .file)) (recordStart (a .h) (a .i)) in
     tooFast (a .h) (entryAt (now (a .file)) (curveStart (s .curve)) 0) s ≡ c .too-fast .result
-speed c = sym (rw (c .too-fast .ensures, c .before .entry .ensures .0, c .before .before .before .before .before .read-segment .ensures))
+speed c = sym (rw (c .too-fast .ensures, c .before .entry .ensures .0, read (c .before .before .before .before .before)))
 
 returns : tie.Need-returns
 unfolding recordNumber
@@ -51,7 +69,7 @@ entry-requires c κs = omega (arith, within c)
 
 too-fast-requires : tie.Need-too-fast-requires
 too-fast-requires c κs =
-    (c .before .before .before .before .before .before .pre .0 .within .step-high, c .entry .ensures .1, within (c .before) .metres-high)
+    (c .before .before .before .before .before .before .before .pre .0 .within .step-high, c .entry .ensures .1, within (c .before) .metres-high)
 
 returns-2 : tie.Need-returns-2
 unfolding recordNumber
@@ -69,6 +87,10 @@ pub record-row-spec : {M : Type 1} → statement M
 record-row-spec =
     tie.close
     (tie.spec
+    (λ c. search needs)
+    (λ c. search needs)
+    (λ c. search needs)
+    (λ c. search needs)
     (λ c. search needs)
     (λ c. search needs)
     (λ c. search needs)

@@ -1,7 +1,7 @@
 // Big-endian numbers in a list of bytes, and tests of numbers. A byte past the end reads as 0.
 ghost use mathlib.Core.Path.{_≡_};
 ghost use Prim.Native.Nat.{_+_, _%_, _<_, _≤_};
-ghost use lib.ListN.{length};
+ghost use lib.ListN.{length, getD};
 ghost use lib.Dec.{ltb};
 ghost use Rattle.laws.specs.First.{row, outside};
 ghost use Rattle.laws.specs.BigEndian.{byteAt, u16At, u32At, low};
@@ -44,6 +44,16 @@ pub(crate) fn u32_in(b: &[u8], i: usize) -> u64
     ensures { λ r. ⌜ (r ≡ u32At (now (b .entry)) i) × (r < 4294967296) ⌝ }
 {
     wide(b[i]) * 16777216 + wide(b[i + 1]) * 65536 + wide(b[i + 2]) * 256 + wide(b[i + 3])
+}
+
+// Word i of a list; past the end a word reads as 0.
+pub(crate) fn word_at(w: &[u64], i: usize) -> u64
+    ensures { λ r. ⌜ r ≡ getD (now (w .entry)) i 0 ⌝ }
+{
+    if i < w.len() {
+        return w[i];
+    }
+    0
 }
 
 // The lowest byte of x.

@@ -13,34 +13,33 @@ ghost use Rattle.network.specs.Words.{headIn, entryIn, segmentIn};
 ghost use Rattle.network.specs.Accepted.{Kept, CurvesKept};
 
 pub(crate) fn head_in(kept: &[u64]) -> Head
-    requires { ⌜ 2560 ≤ length (now kept) ⌝ }
     ensures { λ r. ⌜ r ≡ headIn (now (kept .entry)) ⌝ }
 {
     Head {
-        step: kept[0],
-        size: kept[1],
-        curves: kept[2],
-        tau: kept[3],
-        nu: kept[4],
-        kappa: kept[5],
-        delta: kept[6],
+        step: number::word_at(kept, 0),
+        size: number::word_at(kept, 1),
+        curves: number::word_at(kept, 2),
+        tau: number::word_at(kept, 3),
+        nu: number::word_at(kept, 4),
+        kappa: number::word_at(kept, 5),
+        delta: number::word_at(kept, 6),
     }
 }
 
 pub(crate) fn segment_in(kept: &[u64], i: usize) -> Segment
-    requires { ⌜ (2560 ≤ length (now kept)) × (i < 40) ⌝ }
+    requires { ⌜ i < 1000000000000 ⌝ }
     ensures { λ r. ⌜ r ≡ segmentIn (now (kept .entry)) i ⌝ }
 {
     let at = 1624 + 16 * i;
     Segment {
-        metres: kept[at],
-        lanes: kept[at + 1],
-        curve: kept[at + 2],
-        critical: kept[at + 3],
-        jam: kept[at + 4],
-        origin: kept[at + 5],
-        exit: kept[at + 6],
-        most: kept[at + 7],
+        metres: number::word_at(kept, at),
+        lanes: number::word_at(kept, at + 1),
+        curve: number::word_at(kept, at + 2),
+        critical: number::word_at(kept, at + 3),
+        jam: number::word_at(kept, at + 4),
+        origin: number::word_at(kept, at + 5),
+        exit: number::word_at(kept, at + 6),
+        most: number::word_at(kept, at + 7),
     }
 }
 

@@ -9,7 +9,7 @@ use Rattle.network.specs.declared.Head.{Head}
 use Rattle.network.specs.File.{fileSize}
 use Rattle.network.specs.Words.{headIn, keptNumber}
 use Rattle.network.specs.Accepted.{Kept}
-use Rattle.network.proofs.Keeping.{kept-long, kept-head, write-refused, write-short, write-fits, write-stays, write-is}
+use Rattle.network.proofs.Keeping.{kept-head, write-refused, write-short, write-fits, write-stays, write-is}
 use Rattle.network.proofs.write.Statement.{statement}
 use Rattle.network.proofs.write.Tie as tie
 
@@ -24,9 +24,6 @@ returns c =
     let e = c .before .kept-number .ensures in
     let number = e ∙ sym (write-refused _ _ (λ z. c .if1 .taken (e ∙ z))) in
     (number, sym (write-stays _ _ (λ z. c .if1 .taken (number ∙ z))))
-
-head-in-requires : tie.Need-head-in-requires
-head-in-requires c κs = kept-long _ (accepted c)
 
 mul-size : tie.Need-mul-size
 mul-size c = omega (arith, kept (c .before))
@@ -64,7 +61,7 @@ write-spec =
     (tie.spec
     (λ c κs. search needs)
     returns
-    head-in-requires
+    (λ c κs. search needs)
     mul-size
     add-size
     mul-size-2

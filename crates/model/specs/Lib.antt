@@ -1,0 +1,6 @@
+pub mod Case
+pub mod Flow
+pub mod Speed
+pub mod Step
+pub mod Words
+pub mod Ready

@@ -1,0 +1,80 @@
+// One METANET step with ALINEA ramps over the lent words and speeds.
+mod flow; // flow.rt: rates, releases and flows, whole numbers
+mod speed; // speed.rt: the new speed, binary64
+mod segment; // segment.rt: one segment
+mod rows; // rows.rt: all segments of a case, in place
+mod totals; // totals.rt: steps, arrivals, exits, time
+
+ghost use mathlib.Core.Path.{_≡_};
+ghost use Prim.Native.Nat.{_+_, _*_};
+ghost use Rattle.model.specs.Words.{stepCaseWords, stepCaseSpeeds};
+ghost use Rattle.model.specs.Ready.{Ready, TotalsOk};
+
+// A segment's part of a case: N and queue w in mv; the sign's limit in km/h, 0 where it is dark, and compliance in thousandths with
+// 500 added; the setting's kind (0 open, 1 fixed, 2 ALINEA), rate R, target, gain, least and interval z; last outflow and last
+// release; speed v in m/h.
+pub struct Row {
+    pub count: u64,
+    pub queue: u64,
+    pub limit: u64,
+    pub compliance: u64,
+    pub kind: u64,
+    pub rate: u64,
+    pub target: u64,
+    pub gain: u64,
+    pub least: u64,
+    pub interval: u64,
+    pub outflow: u64,
+    pub release: u64,
+    pub speed: f64,
+}
+
+// What a step of one segment goes by, its own row aside: what the segment before passes on and its speed u, the density ρ' of the
+// next one, and the desired speed V.
+pub struct Around {
+    pub passed: u64,
+    pub before: f64,
+    pub after: f64,
+    pub want: f64,
+}
+
+// One segment's state before the step: N, w, v, ρ, u and ρ'.
+pub struct Old {
+    pub count: u64,
+    pub queue: u64,
+    pub speed: f64,
+    pub density: f64,
+    pub before: f64,
+    pub after: f64,
+}
+
+// A sign is dark, or shows a speed in m/h.
+pub enum Sign {
+    Dark,
+    Shown(f64),
+}
+
+// One step of the case whose rows start at word at and whose speeds start at from; n is the network's number of segments. The caller
+// has judged the network, the case and the arrivals.
+pub fn step(
+    words: &mut [u64],
+    speeds: &mut [f64],
+    arrivals: &[u32],
+    at: usize,
+    from: usize,
+    n: usize,
+)
+    requires { ⌜ Ready (now words) (now speeds) (now arrivals) at from n ⌝ }
+    requires { ⌜ TotalsOk (now words) (at + 16 * n) ⌝ }
+    ensures { λ _. ⌜ now (words .exit) ≡ stepCaseWords (now (words .entry)) (now (speeds .entry)) at from n (now (arrivals .entry)) ⌝ }
+    ensures { λ _. ⌜ now (speeds .exit) ≡ stepCaseSpeeds (now (words .entry)) (now (speeds .entry)) at from n (now (arrivals .entry)) ⌝ }
+{
+    let e = at + 16 * n;
+    let f = e + 8;
+    let t = words[e];
+    let duration = words[0];
+    let came = totals::sum_arrivals(arrivals, n);
+    let held = totals::held_in(words, at, n);
+    let left = rows::step_rows(words, speeds, arrivals, at, from, n, t);
+    totals::add_totals(&mut words[e..f], came, left, duration * held);
+}

@@ -9,7 +9,7 @@ FILES = 200000
 FUZZ = 10000000
 SEED = 20261115
 
-.PHONY: run test bench fuzz harness
+.PHONY: run test bench fuzz harness oracle-tests
 
 run:
 	rt check demo
@@ -28,3 +28,6 @@ fuzz: harness
 harness:
 	rt staticlib engine
 	cd harness && $(CARGO) build --release
+
+oracle-tests:
+	cd oracle && $(CARGO) test -q

@@ -1,5 +1,5 @@
 // Reads a network file on standard input and prints the number that refuses it. Of an accepted file it prints the step, the
-// segments and the curves, then for each of the first curve numbers the number that refuses it and how many bytes are shown.
+// segments and the curves, then for the curve numbers 0, 1 and 8 the number that refuses it and how many bytes are shown.
 fn line(label: &[u8], x: u64) {
     io::write_all(1, label);
     io::print_decimal(1, x);

@@ -13,7 +13,7 @@ pub extern "C" fn network_check(file: &[u8]) -> u64
     network::check(file)
 }
 
-// The number that refuses curve k of a file, and 0 where there is none.
+// The number that refuses curve k of a file, and 0 where nothing does.
 #[no_mangle]
 pub extern "C" fn network_curve_number(file: &[u8], k: u64) -> u64
     ensures { λ r. ⌜ r ≡ curveCallNumber (now (file .entry)) k ⌝ }

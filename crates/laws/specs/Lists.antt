@@ -1,7 +1,7 @@
 -- Lists by place: a table of values, a part of a list, and parts put into a list.
 use Prim.Native.Nat.{ℕ, zero, suc, _+_, _*_}
 use mathlib.Core.List.{List, [], _∷_, _++_}
-use lib.ListN.{length, take, drop}
+use lib.ListN.{take, drop}
 
 -- f 0, f 1, .. f (n - 1)
 unfoldable pub table {ℓ} : {A : Type ℓ} → (ℕ → A) → ℕ → List A

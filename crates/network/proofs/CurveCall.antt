@@ -1,11 +1,10 @@
 -- A curve that is asked for.
 use Prim.Native.Nat.{ℕ, _+_, _*_, _≤_, _<_}
 use mathlib.Core.List.{List, []}
-use mathlib.Core.Path.{_≡_, sym, ap, _∙_}
+use mathlib.Core.Path.{_≡_, _∙_}
 use native.Mathlib.Omega.{arith}
 use lib.ListN.{length}
 use borrow.Author.Tests.{le-leb, lt-leb, leb-false}
-use Rattle.laws.specs.First.{row, first, ifAccepted}
 use Rattle.laws.specs.Lists.{part}
 use Rattle.laws.specs.BigEndian.{u32At}
 use Rattle.laws.proofs.First.{row-passed, row-applies, row-skipped, first-some, first-zero, first-zero-left, first-zero-right, when-accepted, when-refused}

@@ -1,25 +1,23 @@
 -- What acceptance says of a file, and which part of the file refuses it.
-use Prim.Native.Nat.{ℕ, _+_, _*_, _≤_, _<_}
-use mathlib.Core.Bool.{Bool, true, false, _||_, not}
-use mathlib.Core.List.{List, []}
-use mathlib.Core.Path.{_≡_, refl, sym, ap, _∙_}
+use Prim.Native.Nat.{ℕ, _≤_, _<_}
+use mathlib.Core.Bool.{true, false, _||_}
+use mathlib.Core.List.{List}
+use mathlib.Core.Path.{_≡_, sym, ap, _∙_}
 use native.Mathlib.Omega.{arith}
 use native.Mathlib.Nat.{add-zero}
 use lib.Dec.{ltb}
-use lib.ListN.{length, getD}
+use lib.ListN.{length}
 use borrow.Author.Tests.{ltb-false, eqb-true, not-false}
-use Rattle.laws.specs.First.{row, first, firstOf}
 use Rattle.laws.specs.Lists.{part}
 use Rattle.laws.specs.BigEndian.{u16At}
 use Rattle.laws.proofs.Lists.{part-at}
 use Rattle.laws.proofs.BigEndian.{part-u16, part-u32}
 use Rattle.laws.proofs.Tests.{or-left, or-right}
-use Rattle.laws.proofs.First.{row-passed, row-later, row-skipped, row-applies, first-some, first-zero, first-zero-left, first-zero-right, firstOf-zero, firstOf-all}
-use Rattle.network.specs.declared.Head.{Head}
-use Rattle.network.specs.declared.Segment.{Segment}
+use Rattle.laws.proofs.First.{row-passed, row-later, row-skipped, first-some, first-zero, first-zero-left, first-zero-right, firstOf-zero, firstOf-all}
 use Rattle.network.specs.Network.{networkFrom, entryOf, segmentOf, headBad, fieldThenSpeed, segmentNumber, rowsNumber, networkNumber}
-use Rattle.network.specs.File.{hasMark, versionOf, headOf, headPadding, fileSize, headNumber, curveStart, entryAt, curveIn, curvesNumber, recordStart, segmentAt, recordPadding, recordNumber, recordsNumber, fileNumber, entryOn, segmentOn, networkOf}
+use Rattle.network.specs.File.{hasMark, versionOf, headOf, headPadding, headNumber, curveIn, curvesNumber, recordStart, segmentAt, recordPadding, recordNumber, recordsNumber, fileNumber, entryOn, segmentOn, networkOf}
 use Rattle.network.specs.Accepted.{RowsWithin, Sized}
+use Rattle.network.specs.Statements.{HoldsWithin}
 use Rattle.network.proofs.Rows.{head-within, rows-within}
 use Rattle.network.proofs.From.{from-number}
 
@@ -108,16 +106,19 @@ module _ (b : List ℕ) where
       let z = a .records i l in
       row-skipped _ _ _ (or-left _ (recordPadding b (recordStart (headOf b) i)) (row-passed _ _ _ z)) ∙ row-later _ _ _ z
 
-  pub network-accepted : fileNumber b ≡ 0 → networkNumber (networkOf b) ≡ 0
+  is-within : fileNumber b ≡ 0 → networkNumber (networkOf b) ≡ 0
   unfolding rowsNumber
-  network-accepted z =
+  is-within z =
       let a = file-accepted b z in
       from-number (headOf b) (entryOn b) (segmentOn b)
       ∙ row-skipped _ _ _ (a .head .fields)
       ∙ first-zero _ _ (firstOf-all (curveIn b) _ (a .curves))
       ∙ firstOf-all _ _ (segment-in a)
 
-  -- every bound that the floors above need
+  -- every bound that the crates above need
   pub network-within : fileNumber b ≡ 0 → RowsWithin (headOf b) (entryOf (networkOf b)) (segmentOf (networkOf b))
   unfolding networkFrom
-  network-within z = rows-within _ _ _ (network-accepted z)
+  network-within z = rows-within _ _ _ (is-within z)
+
+pub network-accepted : HoldsWithin
+network-accepted = is-within

@@ -1,18 +1,18 @@
 -- The network that is given by its head, entries and segments: what it holds, and that rows 4, 6, 7 and 8 look at nothing else.
-use Prim.Native.Nat.{ℕ, zero, suc, _+_, _*_, _≤_, _<_}
+use Prim.Native.Nat.{ℕ, _+_, _<_}
 use mathlib.Core.Bool.{Bool, true, false}
 use mathlib.Core.List.{List, []}
-use mathlib.Core.Path.{_≡_, refl, sym, ap, _∙_}
+use mathlib.Core.Path.{_≡_, refl, ap, _∙_}
 use native.Mathlib.Omega.{arith}
 use lib.Dec.{ltb, lit<}
 use lib.ListN.{length, getD}
-use Rattle.laws.specs.First.{outside, row, first, firstOf}
+use Rattle.laws.specs.First.{outside, row, first}
 use Rattle.laws.specs.Lists.{table}
-use Rattle.laws.proofs.First.{row-applies, row-skipped, firstOf-ext}
+use Rattle.laws.proofs.First.{firstOf-ext}
 use Rattle.laws.proofs.Lists.{length-table, getD-table, table-of}
 use Rattle.network.specs.declared.Head.{Head}
 use Rattle.network.specs.declared.Segment.{Segment}
-use Rattle.network.specs.Network.{Network, networkFrom, noSegment, entryOf, segmentOf, headBad, rising, curveNumber, segmentBad, tooFast, fieldThenSpeed, segmentNumber, rowsNumber, networkNumber}
+use Rattle.network.specs.Network.{Network, networkFrom, noSegment, entryOf, segmentOf, headBad, rising, curveNumber, segmentBad, fieldThenSpeed, segmentNumber, rowsNumber, networkNumber}
 use Rattle.network.specs.Accepted.{Formed}
 use Rattle.network.proofs.Rows.{segment-within}
 

@@ -1,11 +1,11 @@
 -- A network that is kept in words: what acceptance says of it, and what Write answers.
 use Prim.Native.Nat.{ℕ, _≤_, _<_}
 use mathlib.Core.List.{List, _++_}
-use mathlib.Core.Path.{_≡_, sym, _∙_}
+use mathlib.Core.Path.{_≡_, _∙_}
 use lib.ListN.{length, drop}
 use borrow.Author.Tests.{ltb-false, lt-ltb, le-ltb}
 use Rattle.laws.proofs.First.{row-passed, row-later, row-applies, row-skipped, first-some, first-zero, when-accepted, when-refused}
-use Rattle.network.specs.Network.{networkFrom, entryOf, segmentOf, rowsNumber, networkNumber}
+use Rattle.network.specs.Network.{rowsNumber, networkNumber}
 use Rattle.network.specs.File.{fileSize}
 use Rattle.network.specs.Written.{fileOf}
 use Rattle.network.specs.Words.{headIn, entryIn, segmentIn, networkIn, keptNumber, writeNumber, writeBytes}

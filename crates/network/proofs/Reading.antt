@@ -1,26 +1,27 @@
 -- The network that the file of a network holds is that network, and the file is accepted: for every network within rows 4, 6, 7 and 8.
-use Prim.Native.Nat.{ℕ, zero, suc, _+_, _*_, _/_, _%_, _≤_, _<_}
+use Prim.Native.Nat.{ℕ, _+_, _*_, _≤_, _<_}
 use mathlib.Core.Path.{_≡_, refl, sym, ap, _∙_}
-use mathlib.Core.Bool.{Bool, true, false, _||_, not}
-use mathlib.Core.List.{List, [], _∷_, _++_, append-nil}
+use mathlib.Core.Bool.{false, _||_, not}
+use mathlib.Core.List.{List, [], _++_, append-nil}
 use native.Mathlib.Omega.{arith}
 use native.Mathlib.Nat.{add-zero}
-use lib.Dec.{ltb, eqb, lit<}
-use lib.ListN.{length, getD, take, drop, length-append}
-use lib.Seq.{drop-drop, drop-at, take-at}
+use lib.Dec.{eqb, lit<}
+use lib.ListN.{length, take, drop, length-append}
+use lib.Seq.{drop-drop, drop-at}
 use borrow.Author.Tests.{le-ltb, eq-eqb}
-use Rattle.laws.specs.First.{row, first, firstOf}
+use Rattle.laws.specs.First.{first, firstOf}
 use Rattle.laws.specs.Lists.{part, parts}
-use Rattle.laws.specs.BigEndian.{byteAt, u16At, u32At, low, u32Bytes}
+use Rattle.laws.specs.BigEndian.{u32At, u32Bytes}
 use Rattle.laws.proofs.First.{row-passed, row-skipped, first-zero, firstOf-all}
 use Rattle.laws.proofs.Lists.{parts-at, length-parts}
 use Rattle.laws.proofs.BigEndian.{low-byte, two-back, four-back, length-u32, u32-back, part-u32}
 use Rattle.network.specs.declared.Head.{Head}
 use Rattle.network.specs.declared.Segment.{Segment}
-use Rattle.network.specs.Network.{Network, networkFrom, entryOf, segmentOf, headBad, segmentBad, fieldThenSpeed, segmentNumber, rowsNumber, networkNumber}
+use Rattle.network.specs.Network.{Network, networkFrom, entryOf, segmentOf, headBad, segmentBad, fieldThenSpeed, segmentNumber, networkNumber}
 use Rattle.network.specs.File.{headOf, hasMark, versionOf, headPadding, fileSize, headNumber, curveStart, entryAt, recordStart, segmentAt, recordPadding, entryOn, segmentOn, curveIn, curvesNumber, recordNumber, recordsNumber, fileNumber, networkOf}
+use Rattle.network.specs.Statements.{ReadsBack, FileAccepted}
 use Rattle.network.specs.Written.{headBytes, segmentBytes, fileOf}
-use Rattle.network.specs.Accepted.{HeadWithin, SegmentWithin, RowsWithin, Formed}
+use Rattle.network.specs.Accepted.{SegmentWithin, RowsWithin, Formed}
 use Rattle.network.proofs.Rows.{rows-within, entry-high, head-passed, curves-passed, segments-passed}
 use Rattle.network.proofs.File.{segment-part, padding-part}
 use Rattle.network.proofs.From.{from-held, curve-same}
@@ -122,8 +123,8 @@ module _ (w : Network) (z : networkNumber w ≡ 0) where
   segment-on : (i : ℕ) → i < h .size → segmentOn (fileOf w) i ≡ segmentOf w i
   segment-on i l = ap (λ (g : Head). segmentAt (fileOf w) (recordStart g i)) head-back ∙ segment-is i l
 
-  pub read-back : Formed w → networkOf (fileOf w) ≡ w
-  read-back f =
+  reads-back : Formed w → networkOf (fileOf w) ≡ w
+  reads-back f =
       ap (λ (g : Head). networkFrom g (entryOn (fileOf w)) (segmentOn (fileOf w))) head-back
       ∙ from-held w f (entryOn (fileOf w)) (segmentOn (fileOf w)) entry-is segment-on
 
@@ -177,10 +178,16 @@ module _ (w : Network) (z : networkNumber w ≡ 0) where
       ∙ sym (λ j. fieldThenSpeed (seven j) h (entryOf w (s .curve) 0) s)
       ∙ passed
 
-  pub file-accepted-of : fileNumber (fileOf w) ≡ 0
+  is-accepted : fileNumber (fileOf w) ≡ 0
   unfolding fileNumber curvesNumber recordsNumber
-  file-accepted-of =
+  is-accepted =
       first-zero _ _ head-number
       ∙ first-zero _ _ (firstOf-all (curveIn (fileOf w)) _ curve-number)
       ∙ ap (λ (g : Head). firstOf (recordNumber (fileOf w) g) (g .size)) head-back
       ∙ firstOf-all (recordNumber (fileOf w) h) (h .size) record-number
+
+pub read-back : ReadsBack
+read-back = reads-back
+
+pub file-accepted-of : FileAccepted
+file-accepted-of = is-accepted

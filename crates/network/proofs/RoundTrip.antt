@@ -1,8 +1,8 @@
 -- The file of the network that an accepted file holds is that file.
-use Prim.Native.Nat.{ℕ, zero, suc, _+_, _*_, _/_, _%_, _≤_, _<_}
-use mathlib.Core.Path.{_≡_, refl, sym, ap, ap₂, _∙_}
-use mathlib.Core.Bool.{true, false, _&&_}
-use mathlib.Core.List.{List, [], _∷_, _++_}
+use Prim.Native.Nat.{ℕ, _+_, _*_, _/_, _≤_, _<_}
+use mathlib.Core.Path.{_≡_, sym, ap, _∙_}
+use mathlib.Core.Bool.{false, _&&_}
+use mathlib.Core.List.{List}
 use native.Mathlib.Nat.{add-zero, add-assoc}
 use native.Mathlib.Omega.{arith}
 use borrow.Author.Tests.{ltb-false, eqb-true}
@@ -13,10 +13,11 @@ use Rattle.laws.specs.Lists.{part, parts}
 use Rattle.laws.specs.BigEndian.{Bytes, byteAt, u16At, u32At, low, u32Bytes}
 use Rattle.laws.proofs.Tests.{or-left, or-right, and-left, and-right}
 use Rattle.laws.proofs.First.{row-passed}
-use Rattle.laws.proofs.Lists.{listed, part-listed, parts-ext, parts-of, three-parts}
+use Rattle.laws.proofs.Lists.{listed, part-listed, parts-of, three-parts}
 use Rattle.laws.proofs.BigEndian.{low-byte, two-high, two-low, u32-written}
 use Rattle.network.specs.Network.{networkFrom, entryOf, segmentOf, segmentBad, fieldThenSpeed}
-use Rattle.network.specs.File.{headOf, hasMark, headPadding, curveStart, entryAt, recordStart, segmentAt, recordPadding, recordNumber, fileNumber, entryOn, segmentOn, networkOf}
+use Rattle.network.specs.File.{headOf, curveStart, recordStart, segmentAt, recordPadding, recordNumber, fileNumber, entryOn, segmentOn, networkOf}
+use Rattle.network.specs.Statements.{WritesBack}
 use Rattle.network.specs.Written.{headBytes, segmentBytes, fileOf}
 use Rattle.network.proofs.File.{FileAccepted, HeadAccepted, file-accepted}
 use Rattle.network.proofs.From.{from-entry, from-segment}
@@ -109,9 +110,11 @@ module _ (b : List ℕ) (bs : Bytes b) where
         ∙ ap (take 16) (sym (drop-drop (16 * i) (16 + 804 * headOf b .curves) b)))
         ∙ take-all (16 * headOf b .size) (drop (16 + 804 * headOf b .curves) b) (simp length-drop (omega (arith, a .head .sized .long)))
 
-  -- an accepted network writes back to the same bytes
-  pub round-trip : fileNumber b ≡ 0 → fileOf (networkOf b) ≡ b
+  writes-back : fileNumber b ≡ 0 → fileOf (networkOf b) ≡ b
   unfolding fileOf networkFrom
-  round-trip z =
+  writes-back z =
       let a = file-accepted b z in
       simp (head-bytes (a .head), curves-bytes a, segments-bytes a) (three-parts b 16 (804 * headOf b .curves))
+
+pub round-trip : WritesBack
+round-trip = writes-back

@@ -1,17 +1,16 @@
--- What rows 4, 6, 7 and 8 say of the numbers that they do not refuse, and the other way round.
+-- What rows 4, 6, 7 and 8 say of the numbers that they do not refuse, and which of them refuses.
 use Prim.Native.Nat.{ℕ, zero, suc, _+_, _*_, _≤_, _<_}
-use mathlib.Core.Bool.{Bool, true, false, _||_, _&&_}
-use mathlib.Core.Path.{_≡_, refl, sym, ap, _∙_}
+use mathlib.Core.Bool.{Bool, true, false}
+use mathlib.Core.Path.{_≡_, refl, sym, _∙_}
 use mathlib.Core.Logic.{⊎-elim}
 use native.Mathlib.Omega.{arith}
 use native.Mathlib.Nat.{eq-or-lt-of-le, add-zero, add-assoc}
 use native.Mathlib.Numerals.{add-one}
-use lib.Dec.{ltb, eqb, leb}
-use lib.ListN.{getD}
-use borrow.Author.Tests.{le-leb, lt-leb, lt-ltb, le-ltb, ltb-false, leb-false, eqb-true, eqb-false, eq-eqb, ne-eqb}
+use lib.Dec.{ltb, eqb}
+use borrow.Author.Tests.{ltb-false, leb-false, eqb-false, eq-eqb}
 use Rattle.laws.specs.First.{outside, row, first, firstOf}
-use Rattle.laws.proofs.Tests.{or-left, or-right, and-false, anyOf-false, inside-low, inside-high, inside}
-use Rattle.laws.proofs.First.{row-passed, row-later, row-applies, row-skipped, first-zero, first-some, first-zero-left, first-zero-right, firstOf-none, firstOf-zero, firstOf-all, firstOf-found, firstOf-passed, firstOf-end, firstOf-blocks}
+use Rattle.laws.proofs.Tests.{and-false, anyOf-false, inside-low, inside-high}
+use Rattle.laws.proofs.First.{row-passed, row-later, row-applies, row-skipped, first-zero, first-some, first-zero-left, first-zero-right, firstOf-none, firstOf-zero, firstOf-found, firstOf-passed, firstOf-end, firstOf-blocks}
 use Rattle.network.specs.declared.Head.{Head}
 use Rattle.network.specs.declared.Segment.{Segment}
 use Rattle.network.specs.Network.{headBad, rising, curveNumber, segmentBad, tooFast, fieldThenSpeed, segmentNumber, rowsNumber}
@@ -41,14 +40,6 @@ head-within h e =
 -- ---- row 6, of the entries e
 
 module _ (e : ℕ → ℕ) where
-  rising-not : (j : ℕ) → e (j + 1) ≤ e j → rising e j ≡ 0
-  unfolding rising row
-  rising-not j l = simp (le-ltb _ _ l)
-
-  rising-is : (j : ℕ) → e j < e (j + 1) → rising e j ≡ 6
-  unfolding rising row
-  rising-is j l = simp (lt-ltb _ _ l)
-
   curve-starts-in : outside 1000 (e 0) 200000 ≡ false → curveNumber e ≡ firstOf (rising e) 200
   unfolding curveNumber
   curve-starts-in h = row-skipped _ _ _ h
@@ -63,12 +54,7 @@ module _ (e : ℕ → ℕ) where
         falls = λ j l. ltb-false _ _ (row-passed _ _ _ (firstOf-zero (rising e) 200 (row-later _ _ _ z) j l));
       }
 
-  pub within-curve : CurveWithin e → curveNumber e ≡ 0
-  within-curve w =
-      curve-starts-in (inside 1000 (e 0) 200000 (w .start-low) (w .start-high))
-      ∙ firstOf-all (rising e) 200 (λ j l. rising-not j (w .falls j l))
-
-  -- no entry is above the first
+  -- no entry is above 200,000
   pub entry-high : CurveWithin e → (j : ℕ) → j ≤ 200 → e j ≤ 200000
   entry-high w zero l = w .start-high
   entry-high w (suc j) l = omega (arith, entry-high w j (omega arith), falls-suc j (omega arith))

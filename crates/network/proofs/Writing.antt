@@ -1,7 +1,7 @@
 -- What is written of a kept network: the head, then the entries, then the records, and the three put together.
-use Prim.Native.Nat.{ℕ, _+_, _*_, _≤_, _<_}
+use Prim.Native.Nat.{ℕ, _+_, _*_}
 use mathlib.Core.Path.{_≡_, refl, sym, ap, _∙_, subst}
-use mathlib.Core.List.{List, [], _∷_, _++_, append-assoc}
+use mathlib.Core.List.{List, _++_, append-assoc}
 use lib.ListN.{length, getD, drop, length-append}
 use native.Mathlib.Omega.{arith}
 use native.Mathlib.Nat.{add-assoc}

@@ -1,12 +1,11 @@
--- What acceptance says, as records whose fields the floors above read.
+-- What acceptance says, as records whose fields the crates above read.
 use Prim.Native.Nat.{ℕ, _+_, _*_, _≤_, _<_}
 use mathlib.Core.Path.{_≡_}
-use mathlib.Core.Bool.{true, false}
 use mathlib.Core.List.{List, []}
 use lib.ListN.{length, getD}
 use Rattle.network.specs.declared.Head.{Head}
 use Rattle.network.specs.declared.Segment.{Segment}
-use Rattle.network.specs.Network.{Network, entryOf, segmentOf}
+use Rattle.network.specs.Network.{Network}
 use Rattle.network.specs.File.{fileSize}
 use Rattle.network.specs.Words.{entryIn}
 

@@ -4,4 +4,5 @@ pub mod Curve
 pub mod Written
 pub mod Words
 pub mod Accepted
+pub mod Statements
 pub mod Marked

@@ -46,7 +46,7 @@ headBad h =
 
 -- ---- 6: 1,000 ≤ e0 ≤ 200,000, none above the one before. A curve is given by its entries e 0 .. e 200
 
--- the entry after entry j
+-- 6 where the entry after entry j is above it
 unfoldable pub rising : (ℕ → ℕ) → ℕ → ℕ
 rising e j = row (ltb (e j) (e (j + 1))) 6 0
 

@@ -10,7 +10,7 @@ use Rattle.network.specs.Network.{Network, networkFrom, rowsNumber}
 use Rattle.network.specs.File.{fileSize}
 use Rattle.network.specs.Written.{fileOf}
 
--- ---- places
+-- ---- places; curves, entries and segments are counted from 0
 
 -- the words that a network takes
 abbrev pub networkWords : ℕ

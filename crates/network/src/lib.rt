@@ -7,8 +7,7 @@ mod words; // words.rt: a network kept in words, rows 4, 6, 7 and 8
 mod writer; // writer.rt: a kept network as bytes
 
 ghost use mathlib.Core.Path.{_≡_};
-ghost use Prim.Native.Nat.{_+_, _*_};
-ghost use Rattle.network.specs.File.{headOf, segmentAt, recordStart, fileNumber};
+ghost use Rattle.network.specs.File.{headOf, segmentOn, fileNumber};
 ghost use Rattle.network.specs.Curve.{curveCallNumber, curveBytes};
 ghost use Rattle.network.specs.Words.{headIn, entryIn, segmentIn, keptNumber, writeNumber, writeBytes};
 
@@ -55,7 +54,7 @@ pub fn check(file: &[u8]) -> u64
     records::record_rows(file, h, n)
 }
 
-// The number that refuses curve k of the file, and 0 where there is none.
+// The number that refuses curve k of the file, and 0 where nothing does.
 pub fn curve_number(file: &[u8], k: u64) -> u64
     ensures { λ r. ⌜ r ≡ curveCallNumber (now (file .entry)) k ⌝ }
 {
@@ -90,7 +89,7 @@ pub fn head_of(file: &[u8]) -> Head
 
 // Segment i, counted from 0, of a file of any content; a byte past its end reads as 0.
 pub fn segment_of(file: &[u8], i: u32) -> Segment
-    ensures { λ r. ⌜ r ≡ segmentAt (now (file .entry)) (recordStart (headOf (now (file .entry))) i) ⌝ }
+    ensures { λ r. ⌜ r ≡ segmentOn (now (file .entry)) i ⌝ }
 {
     let c = number::byte_at(file, 7) as usize;
     records::read_segment(file, 16 + 804 * c + 16 * (i as usize))

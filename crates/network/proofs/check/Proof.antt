@@ -1,10 +1,9 @@
 -- The head refuses, or the curves, or the records; each is asked where the ones before accept.
-use mathlib.Core.Path.{_≡_, sym, ap, _∙_}
+use mathlib.Core.Path.{_≡_, sym, _∙_}
 use native.Mathlib.Omega.{arith}
 use native.Mathlib.Nat.{le-refl}
 use denote.Ref.{now}
-use Rattle.laws.specs.First.{firstOf}
-use Rattle.network.specs.File.{headNumber, curveIn, curvesNumber, recordNumber, recordsNumber}
+use Rattle.network.specs.File.{headNumber, curvesNumber, recordsNumber}
 use Rattle.network.specs.Accepted.{Sized}
 use Rattle.network.proofs.File.{head-accepted, file-head, file-curves, file-records}
 use borrow.Author.Needs.{needs}

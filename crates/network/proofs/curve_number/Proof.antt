@@ -1,4 +1,4 @@
-use mathlib.Core.Path.{_≡_, sym, ap, _∙_}
+use mathlib.Core.Path.{_≡_, sym, _∙_}
 use denote.Ref.{now}
 use Rattle.network.specs.File.{fileNumber}
 use Rattle.network.proofs.CurveCall.{curve-call-file, curve-call-none, curve-call-some}

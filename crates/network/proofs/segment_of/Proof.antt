@@ -1,4 +1,4 @@
-use mathlib.Core.Path.{_≡_, _∙_}
+use mathlib.Core.Path.{_∙_}
 use borrow.Author.Needs.{needs}
 use Rattle.network.proofs.segment_of.Statement.{statement}
 use Rattle.network.proofs.segment_of.Tie as tie

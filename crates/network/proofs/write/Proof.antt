@@ -1,13 +1,9 @@
 -- Refused by the words, refused by the buffer's length, or written.
-use Prim.Native.Nat.{_<_, _≤_}
-use mathlib.Core.Path.{_≡_, sym, ap, _∙_}
+use mathlib.Core.Path.{_≡_, sym, _∙_}
 use native.Mathlib.Omega.{arith}
-use lib.ListN.{length}
 use denote.Ref.{now}
 use borrow.Author.Needs.{needs}
-use Rattle.network.specs.declared.Head.{Head}
-use Rattle.network.specs.File.{fileSize}
-use Rattle.network.specs.Words.{headIn, keptNumber}
+use Rattle.network.specs.Words.{keptNumber}
 use Rattle.network.specs.Accepted.{Kept}
 use Rattle.network.proofs.Keeping.{kept-head, write-refused, write-short, write-fits, write-stays, write-is}
 use Rattle.network.proofs.write.Statement.{statement}

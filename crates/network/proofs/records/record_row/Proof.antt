@@ -1,14 +1,13 @@
 -- The record is read as s; row 7 is the fields' test or the padding's, and row 8 is asked where it passes.
-use mathlib.Core.Path.{_≡_, refl, sym, ap, _∙_}
-use mathlib.Core.Bool.{Bool, true, false, _||_}
+use mathlib.Core.Path.{_≡_, sym, ap, _∙_}
+use mathlib.Core.Bool.{_||_}
 use native.Mathlib.Omega.{arith}
 use denote.Ref.{now}
 use Prim.Native.Nat.{ℕ}
 use Rattle.laws.specs.Lists.{part}
 use Rattle.laws.proofs.Tests.{or-left}
 use Rattle.laws.proofs.Lists.{span}
-use Rattle.network.specs.declared.Segment.{Segment}
-use Rattle.network.specs.Network.{segmentBad, tooFast, fieldThenSpeed}
+use Rattle.network.specs.Network.{segmentBad, tooFast}
 use Rattle.network.specs.File.{recordNumber, recordPadding, recordStart, segmentAt, entryAt, curveStart}
 use Rattle.network.specs.Accepted.{SegmentWithin}
 use Rattle.network.proofs.Rows.{segment-within, field-refused, speed-refused, speed-passed}

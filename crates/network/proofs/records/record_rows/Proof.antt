@@ -1,4 +1,5 @@
-use Prim.Native.Nat.{ℕ, _≤_, _<_, _-_, _+_}
+-- None of those passed is refused. The measure is how many are left.
+use Prim.Native.Nat.{_≤_, _-_}
 use mathlib.Core.Path.{_≡_}
 use native.Mathlib.Omega.{arith}
 use borrow.Author.Needs.{needs}

@@ -1,13 +1,12 @@
 -- The head refuses, or the curves, or the segments; each is asked where the ones before accept.
-use mathlib.Core.Path.{_≡_, sym, ap, _∙_}
-use mathlib.Core.Bool.{false}
+use mathlib.Core.Path.{_≡_, sym, _∙_}
 use native.Mathlib.Omega.{arith}
 use native.Mathlib.Nat.{le-refl}
 use denote.Ref.{now}
 use Rattle.laws.specs.First.{firstOf}
 use Rattle.laws.proofs.First.{firstOf-zero}
-use Rattle.network.specs.Network.{headBad, curveNumber, segmentNumber}
-use Rattle.network.specs.Words.{headIn, entryIn, segmentIn}
+use Rattle.network.specs.Network.{headBad, curveNumber}
+use Rattle.network.specs.Words.{headIn, entryIn}
 use Rattle.network.specs.Accepted.{HeadWithin, CurvesKept}
 use Rattle.network.proofs.Rows.{head-within, curve-within, rows-head, rows-curves, rows-segments}
 use borrow.Author.Needs.{needs}

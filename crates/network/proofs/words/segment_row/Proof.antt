@@ -1,5 +1,5 @@
 -- The segment is read as s; row 8 is asked where row 7 passes.
-use mathlib.Core.Path.{_≡_, sym, ap, _∙_}
+use mathlib.Core.Path.{_≡_, sym, _∙_}
 use native.Mathlib.Omega.{arith}
 use denote.Ref.{now}
 use Rattle.network.specs.Network.{segmentBad, tooFast, segmentNumber}

@@ -1,4 +1,3 @@
-use mathlib.Core.Path.{_≡_}
 use borrow.Author.Needs.{needs}
 use Rattle.network.proofs.Writing.{written-by}
 use Rattle.network.proofs.writer.put_network.Statement.{statement}

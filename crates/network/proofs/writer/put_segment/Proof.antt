@@ -1,4 +1,4 @@
-use mathlib.Core.Path.{_≡_, sym, ap, _∙_}
+use mathlib.Core.Path.{_∙_}
 use Rattle.network.specs.Written.{segmentBytes}
 use borrow.Author.Needs.{needs}
 use Rattle.network.proofs.writer.put_segment.Statement.{statement}

@@ -1,0 +1,25 @@
+-- What is shown of the file and its network. The theorems are in proofs/: round-trip, network-accepted, read-back, file-accepted-of.
+use Prim.Native.Nat.{ℕ}
+use mathlib.Core.Path.{_≡_}
+use mathlib.Core.List.{List}
+use Rattle.laws.specs.BigEndian.{Bytes}
+use Rattle.network.specs.Network.{Network, networkNumber}
+use Rattle.network.specs.File.{fileNumber, networkOf}
+use Rattle.network.specs.Written.{fileOf}
+use Rattle.network.specs.Accepted.{Formed}
+
+-- an accepted network writes back to the same bytes
+abbrev pub WritesBack : Type 0
+WritesBack = (b : List ℕ) → Bytes b → fileNumber b ≡ 0 → fileOf (networkOf b) ≡ b
+
+-- the network of an accepted file is within rows 4, 6, 7 and 8
+abbrev pub HoldsWithin : Type 0
+HoldsWithin = (b : List ℕ) → fileNumber b ≡ 0 → networkNumber (networkOf b) ≡ 0
+
+-- a network within rows 4, 6, 7 and 8 is read back from its file
+abbrev pub ReadsBack : Type 0
+ReadsBack = (w : Network) → networkNumber w ≡ 0 → Formed w → networkOf (fileOf w) ≡ w
+
+-- and its file is accepted
+abbrev pub FileAccepted : Type 0
+FileAccepted = (w : Network) → networkNumber w ≡ 0 → fileNumber (fileOf w) ≡ 0

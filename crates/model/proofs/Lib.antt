@@ -1,2 +1,6 @@
+pub mod FlowLaws
 pub mod SegmentLaws
 pub mod Turns
+pub mod ReadBack
+pub mod CaseLaws
+pub mod Balance

@@ -131,7 +131,7 @@ module _ {ws : List ℕ} {vs : List Float} {ds : List ℕ} {at from n : ℕ} (ok
     unfolding rowIn
     next-high h =
         let e : getD (drop (at + 16 * i) ws) 16 0 ≡ getD (drop (at + 16 * (i + 1)) ws) 0 0 =
-            getD-drop (at + 16 * i) ws 16 0 ∙ ap (λ (k : ℕ). getD ws k 0) (omega arith) ∙ sym (getD-drop (at + 16 * (i + 1)) ws 0 0) in
+        getD-drop (at + 16 * i) ws 16 0 ∙ ap (λ (k : ℕ). getD ws k 0) (omega arith) ∙ sym (getD-drop (at + 16 * (i + 1)) ws 0 0) in
         le-trans (le-of-eq e) (ok .row (i + 1) h .count)
 
     pub fresh-ok : i < n → FreshOk words (at + 16 * i) (getD speeds (from + i) nan) (getD ds i 0) i n passed

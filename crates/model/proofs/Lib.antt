@@ -4,3 +4,5 @@ pub mod Turns
 pub mod ReadBack
 pub mod CaseLaws
 pub mod Balance
+pub mod SoundLaws
+pub mod SingleLaws

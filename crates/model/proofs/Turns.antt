@@ -12,15 +12,15 @@ use lib.Dec.{ltb}
 use borrow.Author.Tests.{ltb-true}
 use lib.Ieee.{Float, nan}
 use Rattle.laws.specs.Lists.{part, puts}
-use Rattle.laws.proofs.Lists.{getD-table}
 use Rattle.laws.proofs.Puts.{puts-none, length-puts, take-puts, drop-puts, puts-more}
 use Rattle.network.specs.Words.{headIn, entryIn, segmentIn}
 use Rattle.model.specs.declared.Row.{Row}
-use Rattle.model.specs.Case.{noRow, rowOf}
+use Rattle.model.specs.Case.{rowOf}
 use Rattle.model.specs.Flow.{exitPart}
 use Rattle.model.specs.Step.{density, through, outflowNow, made, inflow, upstream, downstream, stepRow, exitNow}
 use Rattle.model.specs.Words.{netOf, rowIn, rowAt, rowsIn, rowWords, newRow, newWords, newSpeeds, stepWords, stepSpeeds}
 use Rattle.model.specs.Ready.{SegmentOk, RowOk, Ready, FreshOk, afterIn, freshIn}
+use Rattle.model.proofs.SoundLaws.{row-read}
 use Rattle.model.proofs.SegmentLaws.{segment-ok, through-at-most-count, outflow-at-most-count, exit-le}
 
 -- what the segment before i passes on, of the case in ws and vs
@@ -40,8 +40,7 @@ pub record Turn (ws : List ℕ) (vs : List Float) (ds : List ℕ) (at from n t :
 
 module _ {ws : List ℕ} {vs : List Float} {ds : List ℕ} {at from n : ℕ} (ok : Ready ws vs ds at from n) where
   pub row-is : (i : ℕ) → i < n → rowOf (rowsIn ws vs at from n) i ≡ rowAt ws vs at from i
-  unfolding rowsIn
-  row-is i h = getD-table (rowAt ws vs at from) n i noRow h
+  row-is i h = row-read ws vs at from n i h
 
   pub at-size : (i : ℕ) → i < n → i < headIn (netOf ws) .size
   at-size i h = omega (arith, ok .size)

@@ -4,3 +4,4 @@ pub mod Speed
 pub mod Step
 pub mod Words
 pub mod Ready
+pub mod Sound

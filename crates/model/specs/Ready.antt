@@ -46,6 +46,14 @@ pub record RowOk (s : Segment) (f : ℕ) (r : Row) : Type 0 where
   pub low : T (le (real 1000) (r .speed))
   pub high : T (le (r .speed) (real f))
 
+-- a case of n segments at at and from, on the network in the first 2,560 words, whose size n is
+pub record CaseAt (words : List ℕ) (speeds : List Float) (at from n : ℕ) : Type 0 where
+  pub net : RowsWithin (headIn (netOf words)) (entryIn (netOf words)) (segmentIn (netOf words))
+  pub size : n ≡ headIn (netOf words) .size
+  pub past : 2560 ≤ at
+  pub room : at + 16 * n + 8 ≤ length words
+  pub lane : from + n ≤ length speeds
+
 -- the whole step: the network in the first 2,560 words, n its size, a case at at and from, n arrivals
 pub record Ready (words : List ℕ) (speeds : List Float) (ds : List ℕ) (at from n : ℕ) : Type 0 where
   pub net : RowsWithin (headIn (netOf words)) (entryIn (netOf words)) (segmentIn (netOf words))

@@ -4,11 +4,13 @@ mod speed; // speed.rt: the new speed, binary64
 mod segment; // segment.rt: one segment
 mod rows; // rows.rt: all segments of a case, in place
 mod totals; // totals.rt: steps, arrivals, exits, time
+mod sound; // sound.rt: whether a case is sound, and a step's arrivals
 
 ghost use mathlib.Core.Path.{_≡_};
 ghost use Prim.Native.Nat.{_+_, _*_};
 ghost use Rattle.model.specs.Words.{stepCaseWords, stepCaseSpeeds};
 ghost use Rattle.model.specs.Ready.{Ready, TotalsOk};
+ghost use Rattle.model.specs.Sound.{singleNumber, singleWords, singleSpeeds};
 
 // A segment's part of a case: N and queue w in mv; the sign's limit in km/h, 0 where it is dark, and compliance in thousandths with
 // 500 added; the setting's kind (0 open, 1 fixed, 2 ALINEA), rate R, target, gain, least and interval z; last outflow and last
@@ -77,4 +79,20 @@ pub fn step(
     let held = totals::held_in(words, at, n);
     let left = rows::step_rows(words, speeds, arrivals, at, from, n, t);
     totals::add_totals(&mut words[e..f], came, left, duration * held);
+}
+
+// One step of a network and one case that stand alone in arrays of any content: the network in the first 2,560 words, then the case's
+// rows and totals; its speeds from 0 on. Gives 12, 13, 15 or 16 and leaves the arrays as they came, or 0.
+pub fn single_step(words: &mut [u64], speeds: &mut [f64], arrivals: &[u32]) -> u64
+    ensures { λ r. ⌜ r ≡ singleNumber (now (words .entry)) (now (speeds .entry)) (now (arrivals .entry)) ⌝ }
+    ensures { λ _. ⌜ now (words .exit) ≡ singleWords (now (words .entry)) (now (speeds .entry)) (now (arrivals .entry)) ⌝ }
+    ensures { λ _. ⌜ now (speeds .exit) ≡ singleSpeeds (now (words .entry)) (now (speeds .entry)) (now (arrivals .entry)) ⌝ }
+{
+    let r = sound::single_number(words, speeds, arrivals);
+    if r != 0 {
+        return r;
+    }
+    let n = words[1] as usize;
+    step(words, speeds, arrivals, 2560, 0, n);
+    0
 }

@@ -147,7 +147,8 @@ fn want_of(net: &[u64], s: Segment, f: u64, r: Row, g: u64) -> f64
     speed::desired(v, sign_of(r))
 }
 
-fn merges_at(origin: u64, i: usize) -> bool
+// Whether something merges at an origin past segment 1, which alone may be metered; i is counted from 0.
+pub(crate) fn merges_at(origin: u64, i: usize) -> bool
     ensures { λ r. ⌜ r ≡ (eqb origin 1 && ltb 0 i) ⌝ }
 {
     if origin == 1 {
@@ -157,7 +158,7 @@ fn merges_at(origin: u64, i: usize) -> bool
 }
 
 // The row at the start of these words.
-fn row_of(w: &[u64], v: f64) -> Row
+pub(crate) fn row_of(w: &[u64], v: f64) -> Row
     requires { ⌜ 16 ≤ length (now w) ⌝ }
     ensures { λ r. ⌜ r ≡ rowIn (now (w .entry)) v ⌝ }
 {

@@ -105,7 +105,11 @@ fn try_one(number: usize, seed: u64, index: u64) -> Outcome {
 fn say(test: &Test, inputs: u64, outcome: Outcome) -> bool {
     let name = test.name;
     let Err(failure) = outcome else {
-        println!("ok {name}: {inputs} inputs");
+        let inputs = match inputs {
+            1 => "1 input".to_string(),
+            _ => format!("{inputs} inputs"),
+        };
+        println!("ok {name}: {inputs}");
         return true;
     };
     let Failure {

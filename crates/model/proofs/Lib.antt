@@ -6,3 +6,5 @@ pub mod CaseLaws
 pub mod Balance
 pub mod SoundLaws
 pub mod SingleLaws
+pub mod MarkedCases
+pub mod Formed

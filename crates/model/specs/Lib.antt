@@ -5,3 +5,4 @@ pub mod Step
 pub mod Words
 pub mod Ready
 pub mod Sound
+pub mod Marked

@@ -5,4 +5,5 @@ pub mod Step
 pub mod Words
 pub mod Ready
 pub mod Sound
+pub mod Statements
 pub mod Marked

@@ -14,7 +14,7 @@ use Rattle.network.specs.Words.{headIn, entryIn, segmentIn, keptNumber}
 use Rattle.model.specs.declared.Row.{Row}
 use Rattle.model.specs.Case.{Case, openKind, fixedKind, alineaKind, rowOf}
 use Rattle.model.specs.Step.{heldIn, freeSpeed, merges}
-use Rattle.model.specs.Words.{netOf, caseIn, stepCaseWords, stepCaseSpeeds}
+use Rattle.model.specs.Words.{netOf, rowsIn, caseIn, stepCaseWords, stepCaseSpeeds}
 
 -- every mv figure and each case's mv in all ≤ 10¹², time ≤ 10¹⁸, steps ≤ 20,000
 abbrev pub mvMost : ℕ
@@ -118,6 +118,24 @@ module _ (h : Head) (entry : ℕ → ℕ → ℕ) (segment : ℕ → Segment) wh
       row (not (eqb (length ds) (h .size))) 13
       (first (firstOf (arrivalNumber ds) (h .size)) (row (leb stepsMost steps) 16 0))
 
+-- ---- the same of a case and a network in the words; net is the network's words
+
+abbrev pub rowNumberIn : List ℕ → List Float → ℕ → ℕ → ℕ → ℕ → ℕ
+rowNumberIn words speeds at from n i =
+    let net = netOf words in
+    rowNumber (headIn net) (entryIn net) (segmentIn net) (rowsIn words speeds at from n) i
+
+abbrev pub caseNumberIn : List ℕ → List Float → ℕ → ℕ → ℕ → ℕ
+caseNumberIn words speeds at from n =
+    let net = netOf words in
+    caseNumber (headIn net) (entryIn net) (segmentIn net) (caseIn words speeds at from n)
+
+abbrev pub arrivalNumberIn : List ℕ → List ℕ → ℕ → ℕ
+arrivalNumberIn net ds i = arrivalNumber (headIn net) (entryIn net) (segmentIn net) ds i
+
+abbrev pub stepNumberIn : List ℕ → ℕ → List ℕ → ℕ
+stepNumberIn net steps ds = stepNumber (headIn net) (entryIn net) (segmentIn net) steps ds
+
 -- ---- a network and one case that stand alone in the arrays: the case's rows start at word 2,560 and its speeds at 0
 
 abbrev pub singleSize : List ℕ → ℕ
@@ -134,8 +152,7 @@ singleNumber words speeds ds =
     row (ltb 0 (keptNumber net)) 12
     (row (ltb (length words) (2560 + 16 * singleSize words + 8)) 12
     (row (ltb (length speeds) (singleSize words)) 12
-    (first (caseNumber (headIn net) (entryIn net) (segmentIn net) (singleCase words speeds))
-    (stepNumber (headIn net) (entryIn net) (segmentIn net) (singleCase words speeds .steps) ds))))
+    (first (caseNumberIn words speeds 2560 0 (singleSize words)) (stepNumberIn net (singleCase words speeds .steps) ds))))
 
 unfoldable pub singleWords : List ℕ → List Float → List ℕ → List ℕ
 singleWords words speeds ds = ifAccepted (singleNumber words speeds ds) (stepCaseWords words speeds 2560 0 (singleSize words) ds) words

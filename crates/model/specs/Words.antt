@@ -4,11 +4,11 @@ use Prim.Native.Nat.{ℕ, _+_, _*_}
 use mathlib.Core.List.{List, [], _∷_, _++_}
 use lib.ListN.{getD, take, drop, set}
 use lib.Ieee.{Float, nan}
-use Rattle.laws.specs.Lists.{table, part, puts}
+use Rattle.laws.specs.Lists.{table, part, parts, puts}
 use Rattle.laws.specs.Sums.{sumOf}
 use Rattle.network.specs.Words.{headIn, entryIn, segmentIn}
 use Rattle.model.specs.declared.Row.{Row}
-use Rattle.model.specs.Case.{Case}
+use Rattle.model.specs.Case.{Case, rowOf}
 use Rattle.model.specs.Step.{heldIn, stepRow, exitsNow}
 
 -- the words of the network
@@ -54,6 +54,22 @@ caseIn words speeds at from n =
       exits = getD words (at + 16 * n + 2) 0;
       time = getD words (at + 16 * n + 3) 0;
     }
+
+-- ---- the words and speeds of a case of n segments; the free words are 0
+
+unfoldable pub codedRow : Row → List ℕ
+codedRow r =
+    r .count ∷ r .queue ∷ r .limit ∷ r .compliance ∷ r .kind ∷ r .rate ∷ r .target ∷ r .gain ∷ r .least ∷ r .interval
+    ∷ r .outflow ∷ r .release ∷ 0 ∷ 0 ∷ 0 ∷ 0 ∷ []
+
+unfoldable pub codedWords : ℕ → Case → List ℕ
+unfolding codedRow parts
+codedWords n c =
+    parts (λ i. codedRow (rowOf (c .rows) i)) n ++ (c .steps ∷ c .arrivals ∷ c .exits ∷ c .time ∷ 0 ∷ 0 ∷ 0 ∷ 0 ∷ [])
+
+unfoldable pub codedSpeeds : ℕ → Case → List Float
+unfolding table
+codedSpeeds n c = table (λ i. rowOf (c .rows) i .speed) n
 
 -- ---- what a step writes: of a row the figures that a step makes, and its speed
 

@@ -4,7 +4,9 @@ mod speed; // speed.rt: the new speed, binary64
 mod segment; // segment.rt: one segment
 mod rows; // rows.rt: all segments of a case, in place
 mod totals; // totals.rt: steps, arrivals, exits, time
-mod sound; // sound.rt: whether a case is sound, and a step's arrivals
+mod sound; // sound.rt: whether a case is sound
+mod arrivals; // arrivals.rt: the rows that judge a step
+mod single; // single.rt: a network and one case alone in the arrays
 
 ghost use mathlib.Core.Path.{_≡_};
 ghost use Prim.Native.Nat.{_+_, _*_};
@@ -88,7 +90,7 @@ pub fn single_step(words: &mut [u64], speeds: &mut [f64], arrivals: &[u32]) -> u
     ensures { λ _. ⌜ now (words .exit) ≡ singleWords (now (words .entry)) (now (speeds .entry)) (now (arrivals .entry)) ⌝ }
     ensures { λ _. ⌜ now (speeds .exit) ≡ singleSpeeds (now (words .entry)) (now (speeds .entry)) (now (arrivals .entry)) ⌝ }
 {
-    let r = sound::single_number(words, speeds, arrivals);
+    let r = single::single_number(words, speeds, arrivals);
     if r != 0 {
         return r;
     }

@@ -1,18 +1,14 @@
-// Whether a case is sound, and the rows that judge a step's arrivals.
+// Whether a case is sound.
 use crate::Row;
 use crate::segment;
 use crate::speed;
 use crate::totals;
 use network::Segment;
 ghost use mathlib.Core.Path.{_≡_};
-ghost use Prim.Native.Nat.{ℕ, _+_, _*_, _<_, _≤_};
-ghost use lib.ListN.{length, getD};
-ghost use Rattle.laws.specs.First.{outside, row, first, firstOf};
-ghost use Rattle.network.specs.Words.{headIn, entryIn, segmentIn};
-ghost use Rattle.network.specs.Accepted.{RowsWithin};
-ghost use Rattle.model.specs.Words.{netOf, rowsIn, caseIn};
-ghost use Rattle.model.specs.Ready.{CaseAt, heldAt};
-ghost use Rattle.model.specs.Sound.{signBad, hasAlinea, openBad, fixedBad, alineaBad, settingBad, speedBad, rowBad, totalsBad, rowNumber, caseNumber, arrivalNumber, stepNumber, singleNumber};
+ghost use Prim.Native.Nat.{_<_, _≤_};
+ghost use Rattle.laws.specs.First.{outside, firstOf};
+ghost use Rattle.model.specs.Ready.{CaseAt};
+ghost use Rattle.model.specs.Sound.{signBad, hasAlinea, openBad, fixedBad, alineaBad, settingBad, speedBad, rowBad, totalsBad, rowNumberIn, caseNumberIn};
 
 fn outside(least: u64, x: u64, most: u64) -> bool
     ensures { λ r. ⌜ r ≡ outside least x most ⌝ }
@@ -99,7 +95,7 @@ fn row_bad(m: bool, s: Segment, f: u64, r: Row) -> bool
 fn row_number(words: &[u64], speeds: &[f64], at: usize, from: usize, n: usize, i: usize) -> u64
     requires { ⌜ CaseAt (now words) (now speeds) at from n ⌝ }
     requires { ⌜ i < n ⌝ }
-    ensures { λ r. ⌜ r ≡ rowNumber (headIn (netOf (now (words .entry)))) (entryIn (netOf (now (words .entry)))) (segmentIn (netOf (now (words .entry)))) (rowsIn (now (words .entry)) (now (speeds .entry)) at from n) i ⌝ }
+    ensures { λ r. ⌜ r ≡ rowNumberIn (now (words .entry)) (now (speeds .entry)) at from n i ⌝ }
 {
     let net = &words[..2560];
     let s = network::kept_segment(net, i as u32);
@@ -115,7 +111,7 @@ fn row_number(words: &[u64], speeds: &[f64], at: usize, from: usize, n: usize, i
 
 fn rows_number(words: &[u64], speeds: &[f64], at: usize, from: usize, n: usize) -> u64
     requires { ⌜ CaseAt (now words) (now speeds) at from n ⌝ }
-    ensures { λ r. ⌜ r ≡ firstOf (rowNumber (headIn (netOf (now (words .entry)))) (entryIn (netOf (now (words .entry)))) (segmentIn (netOf (now (words .entry)))) (rowsIn (now (words .entry)) (now (speeds .entry)) at from n)) n ⌝ }
+    ensures { λ r. ⌜ r ≡ firstOf (rowNumberIn (now (words .entry)) (now (speeds .entry)) at from n) n ⌝ }
 {
     let mut i = 0;
     while i < n {
@@ -142,7 +138,7 @@ fn totals_bad(held: u64, steps: u64, arrivals: u64, exits: u64, time: u64) -> bo
 // 12 where the case whose rows start at word at and whose speeds start at from is not sound.
 pub(crate) fn case_number(words: &[u64], speeds: &[f64], at: usize, from: usize, n: usize) -> u64
     requires { ⌜ CaseAt (now words) (now speeds) at from n ⌝ }
-    ensures { λ r. ⌜ r ≡ caseNumber (headIn (netOf (now (words .entry)))) (entryIn (netOf (now (words .entry)))) (segmentIn (netOf (now (words .entry)))) (caseIn (now (words .entry)) (now (speeds .entry)) at from n) ⌝ }
+    ensures { λ r. ⌜ r ≡ caseNumberIn (now (words .entry)) (now (speeds .entry)) at from n ⌝ }
 {
     let in_rows = rows_number(words, speeds, at, from, n);
     if in_rows != 0 {
@@ -154,76 +150,4 @@ pub(crate) fn case_number(words: &[u64], speeds: &[f64], at: usize, from: usize,
         return 12;
     }
     0
-}
-
-// 15, of the arrivals at segment i.
-fn arrival_number(net: &[u64], arrivals: &[u32], i: usize) -> u64
-    requires { ⌜ (i < 40) × (i < length (now arrivals)) ⌝ }
-    ensures { λ r. ⌜ r ≡ arrivalNumber (headIn (now (net .entry))) (entryIn (now (net .entry))) (segmentIn (now (net .entry))) (now (arrivals .entry)) i ⌝ }
-{
-    let s = network::kept_segment(net, i as u32);
-    let d = arrivals[i];
-    if (1000000 < d) | ((s.origin == 0) & (0 < d)) {
-        return 15;
-    }
-    0
-}
-
-fn arrivals_number(net: &[u64], arrivals: &[u32], n: usize) -> u64
-    requires { ⌜ (n ≤ 40) × (length (now arrivals) ≡ n) ⌝ }
-    ensures { λ r. ⌜ r ≡ firstOf (arrivalNumber (headIn (now (net .entry))) (entryIn (now (net .entry))) (segmentIn (now (net .entry))) (now (arrivals .entry))) n ⌝ }
-{
-    let mut i = 0;
-    while i < n {
-        let r = arrival_number(net, arrivals, i);
-        if r != 0 {
-            return r;
-        }
-        i += 1;
-    }
-    0
-}
-
-// 13, 15 and 16, of a case of n segments that has taken this many steps.
-pub(crate) fn step_number(net: &[u64], arrivals: &[u32], n: usize, steps: u64) -> u64
-    requires { ⌜ (n ≤ 40) × (n ≡ headIn (now net) .size) ⌝ }
-    ensures { λ r. ⌜ r ≡ stepNumber (headIn (now (net .entry))) (entryIn (now (net .entry))) (segmentIn (now (net .entry))) steps (now (arrivals .entry)) ⌝ }
-{
-    if arrivals.len() != n {
-        return 13;
-    }
-    let r = arrivals_number(net, arrivals, n);
-    if r != 0 {
-        return r;
-    }
-    if 20000 <= steps {
-        return 16;
-    }
-    0
-}
-
-// The number that refuses a step of a network and one case that stand alone in the arrays.
-pub(crate) fn single_number(words: &[u64], speeds: &[f64], arrivals: &[u32]) -> u64
-    ensures { λ r. ⌜ r ≡ singleNumber (now (words .entry)) (now (speeds .entry)) (now (arrivals .entry)) ⌝ }
-{
-    if words.len() < 2560 {
-        return 12;
-    }
-    let net = &words[..2560];
-    if 0 < network::kept_number(net) {
-        return 12;
-    }
-    let h = network::kept_head(net);
-    let n = h.size as usize;
-    if words.len() < 2560 + 16 * n + 8 {
-        return 12;
-    }
-    if speeds.len() < n {
-        return 12;
-    }
-    let r = case_number(words, speeds, 2560, 0, n);
-    if r != 0 {
-        return r;
-    }
-    step_number(net, arrivals, n, words[2560 + 16 * n])
 }

@@ -15,8 +15,8 @@ use Rattle.model.specs.Words.{netOf}
 use Rattle.model.specs.Ready.{CaseAt}
 use Rattle.model.specs.Sound.{singleSize}
 use Rattle.model.proofs.SingleLaws.{single-short, single-net, single-words, single-speeds, single-place, single-case, single-step}
-use Rattle.model.proofs.sound.single_number.Statement.{statement}
-use Rattle.model.proofs.sound.single_number.Tie as tie
+use Rattle.model.proofs.single.single_number.Statement.{statement}
+use Rattle.model.proofs.single.single_number.Tie as tie
 
 -- ---- what holds where a test was passed
 abbrev start : tie.Else2 → tie.Start
@@ -38,7 +38,7 @@ lane : (c : tie.Else4) → let s = start (c .before .before .before) in singleSi
 lane c = omega (arith, size (c .before .before), c .if4 .left)
 
 placed : (c : tie.Else4) → let s = start (c .before .before .before) in CaseAt (s .args .words .now) (s .args .speeds .now) 2560 0 (c .before .before .kept-head .result .size)
-placed c = rw (size (c .before .before)) (single-place _ _ (start (c .before .before .before) .args .arrivals .now) (kept (c .before .before .before)) (room (c .before)) (lane c))
+placed c = rw (size (c .before .before)) (single-place _ _ (start (c .before .before .before) .args .came .now) (kept (c .before .before .before)) (room (c .before)) (lane c))
 
 -- ---- the needs
 returns : tie.Need-returns

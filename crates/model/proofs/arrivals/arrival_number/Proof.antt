@@ -4,8 +4,8 @@ use borrow.Author.Needs.{needs}
 use lib.Dec.{ltb, eqb}
 use Rattle.laws.proofs.First.{row-applies, row-skipped}
 use Rattle.model.specs.Sound.{arrivalNumber}
-use Rattle.model.proofs.sound.arrival_number.Statement.{statement}
-use Rattle.model.proofs.sound.arrival_number.Tie as tie
+use Rattle.model.proofs.arrivals.arrival_number.Statement.{statement}
+use Rattle.model.proofs.arrivals.arrival_number.Tie as tie
 
 returns : tie.Need-returns
 unfolding arrivalNumber

@@ -6,8 +6,8 @@ use Rattle.laws.specs.First.{firstOf}
 use Rattle.laws.proofs.First.{firstOf-none, firstOf-found, firstOf-passed, firstOf-end}
 use Rattle.network.specs.Words.{headIn, entryIn, segmentIn}
 use Rattle.model.specs.Sound.{arrivalNumber}
-use Rattle.model.proofs.sound.arrivals_number.Statement.{statement}
-use Rattle.model.proofs.sound.arrivals_number.Tie as tie
+use Rattle.model.proofs.arrivals.arrivals_number.Statement.{statement}
+use Rattle.model.proofs.arrivals.arrivals_number.Tie as tie
 
 abbrev Inv-loop : tie.InvT-loop
 Inv-loop net arrivals n i₀ i = (i ≤ n) × (firstOf (arrivalNumber (headIn net) (entryIn net) (segmentIn net) arrivals) i ≡ 0)

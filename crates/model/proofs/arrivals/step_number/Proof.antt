@@ -11,8 +11,8 @@ use Rattle.laws.specs.First.{firstOf}
 use Rattle.laws.proofs.First.{row-applies, row-skipped, first-some, first-zero}
 use Rattle.network.specs.Words.{headIn, entryIn, segmentIn}
 use Rattle.model.specs.Sound.{arrivalNumber, stepNumber}
-use Rattle.model.proofs.sound.step_number.Statement.{statement}
-use Rattle.model.proofs.sound.step_number.Tie as tie
+use Rattle.model.proofs.arrivals.step_number.Statement.{statement}
+use Rattle.model.proofs.arrivals.step_number.Tie as tie
 
 -- as many as segments
 many : (c : tie.Else1) → let s = c .before .before .before in not (eqb (length (now (s .args .arrivals))) (headIn (now (s .args .net)) .size)) ≡ false

@@ -11,8 +11,8 @@ mod single; // single.rt: a network and one case alone in the arrays
 ghost use mathlib.Core.Path.{_≡_};
 ghost use Prim.Native.Nat.{_+_, _*_};
 ghost use Rattle.model.specs.Words.{stepCaseWords, stepCaseSpeeds};
-ghost use Rattle.model.specs.Ready.{Ready, TotalsOk};
-ghost use Rattle.model.specs.Sound.{singleNumber, singleWords, singleSpeeds};
+ghost use Rattle.model.specs.Ready.{CaseAt, Ready, TotalsOk};
+ghost use Rattle.model.specs.Sound.{caseNumberIn, singleNumber, singleWords, singleSpeeds};
 
 // A segment's part of a case: N and queue w in mv; the sign's limit in km/h, 0 where it is dark, and compliance in thousandths with
 // 500 added; the setting's kind (0 open, 1 fixed, 2 ALINEA), rate R, target, gain, least and interval z; last outflow and last
@@ -81,6 +81,15 @@ pub fn step(
     let held = totals::held_in(words, at, n);
     let left = rows::step_rows(words, speeds, arrivals, at, from, n, t);
     totals::add_totals(&mut words[e..f], came, left, duration * held);
+}
+
+// 12 where the case whose rows start at word at and whose speeds start at from is not sound, or 0. The caller has judged the network and
+// the arrays' lengths.
+pub fn case_number(words: &[u64], speeds: &[f64], at: usize, from: usize, n: usize) -> u64
+    requires { ⌜ CaseAt (now words) (now speeds) at from n ⌝ }
+    ensures { λ r. ⌜ r ≡ caseNumberIn (now (words .entry)) (now (speeds .entry)) at from n ⌝ }
+{
+    sound::case_number(words, speeds, at, from, n)
 }
 
 // One step of a network and one case that stand alone in arrays of any content: the network in the first 2,560 words, then the case's

@@ -16,7 +16,7 @@ use Rattle.model.specs.Case.{openKind, alineaKind}
 use Rattle.model.specs.Flow.{exitPart, alineaRate, moved, rateChange, jamBound}
 use Rattle.model.specs.Speed.{area, keep}
 use Rattle.model.specs.Step.{rateOf, rateNow, releaseNow, outflowNow, through}
-use Rattle.model.specs.Ready.{SegmentOk, RowOk}
+use Rattle.model.specs.Ready.{AreaOk, SegmentOk, RowOk}
 
 -- ---- what acceptance of the network says of segment i
 
@@ -38,6 +38,9 @@ segment-ok w i l =
       fast = e .start-high;
       reach = w .reach i l;
     }
+
+pub area-ok : {h : Head} {s : Segment} {f : ℕ} → SegmentOk h s f → AreaOk s
+area-ok S = record { metres-low = omega (arith, S .metres-low); metres-high = S .metres-high; lanes-low = S .lanes-low; lanes-high = S .lanes-high }
 
 -- ---- no more leaves than is there
 

@@ -17,6 +17,13 @@ use Rattle.model.specs.Speed.{area}
 use Rattle.model.specs.Step.{made, desiredSpeed}
 use Rattle.model.specs.Words.{netOf, rowIn, rowAt, stepWords, stepSpeeds, leaving}
 
+-- a segment's area is at least 1 and at most 16,000
+pub record AreaOk (s : Segment) : Type 0 where
+  pub metres-low : 1 ≤ s .metres
+  pub metres-high : s .metres ≤ 2000
+  pub lanes-low : 1 ≤ s .lanes
+  pub lanes-high : s .lanes ≤ 8
+
 -- a segment that acceptance has judged, with F: 1,000 ≤ F ≤ 200,000 and F × T ≤ 3600 × L
 pub record SegmentOk (h : Head) (s : Segment) (f : ℕ) : Type 0 where
   pub metres-low : 100 ≤ s .metres

@@ -19,7 +19,7 @@ ghost use Rattle.model.specs.Flow.{exitPart};
 ghost use Rattle.model.specs.Speed.{area};
 ghost use Rattle.model.specs.Step.{signOf, desiredSpeed, rateNow, outflowNow, made};
 ghost use Rattle.model.specs.Words.{netOf, rowIn};
-ghost use Rattle.model.specs.Ready.{SegmentOk, RowOk, FreshOk, afterIn, freshIn};
+ghost use Rattle.model.specs.Ready.{AreaOk, SegmentOk, RowOk, FreshOk, afterIn, freshIn};
 
 fn sign_of(r: Row) -> Sign
     requires { ⌜ (r .limit ≤ 200) × (r .compliance ≤ 1000) ⌝ }
@@ -33,7 +33,7 @@ fn sign_of(r: Row) -> Sign
 
 // G.
 fn area_of(s: Segment) -> u64
-    requires { ⌜ (0 < s .metres) × (s .metres ≤ 2000) × (0 < s .lanes) × (s .lanes ≤ 8) ⌝ }
+    requires { ⌜ AreaOk s ⌝ }
     ensures { λ r. ⌜ (r ≡ area s) × (0 < r) × (r ≤ 16000) ⌝ }
 {
     s.metres * s.lanes
@@ -122,7 +122,7 @@ fn after_of(net: &[u64], rest: &[u64], i: usize, n: usize, s: Segment, count: u6
     requires { ⌜ (n ≤ 40) × (i < n) × (16 * (n - i) ≤ length (now rest)) ⌝ }
     requires { ⌜ (g ≡ area s) × (g ≤ 16000) × (s .critical ≤ 200) × (count ≤ 1000000000000) ⌝ }
     requires { ⌜ (i + 1 < n → getD (now rest) 16 0 ≤ 1000000000000) ⌝ }
-    requires { ⌜ (i + 1 < n → (0 < segmentIn (now net) (i + 1) .metres) × (segmentIn (now net) (i + 1) .metres ≤ 2000) × (0 < segmentIn (now net) (i + 1) .lanes) × (segmentIn (now net) (i + 1) .lanes ≤ 8)) ⌝ }
+    requires { ⌜ (i + 1 < n → AreaOk (segmentIn (now net) (i + 1))) ⌝ }
     ensures { λ r. ⌜ r ≡ afterIn (now (net .entry)) (now (rest .entry)) i n s count ⌝ }
 {
     let k = i + 1;

@@ -9,7 +9,7 @@ use Rattle.laws.proofs.Lists.{rest-is}
 use Rattle.network.specs.Words.{headIn, entryIn, segmentIn}
 use Rattle.model.specs.Words.{netOf}
 use Rattle.model.specs.Ready.{SegmentOk, freshIn}
-use Rattle.model.proofs.SegmentLaws.{segment-ok}
+use Rattle.model.proofs.SegmentLaws.{segment-ok, area-ok}
 use Rattle.model.proofs.segment.fresh.Statement.{statement}
 use Rattle.model.proofs.segment.fresh.Tie as tie
 
@@ -34,7 +34,7 @@ area-of-requires c κs =
     let segment = c .before .before .before in
     let s = segment .before .before .before .before .before in
     let S = judged s (s .args .i) (s .pre .more) in
-    rw (segment .kept-segment .ensures) (omega (arith, S .metres-low), S .metres-high, S .lanes-low, S .lanes-high)
+    rw (segment .kept-segment .ensures) (area-ok S)
 
 after-of-requires : tie.Need-after-of-requires
 after-of-requires c κs =
@@ -53,7 +53,7 @@ after-of-requires c κs =
         ),
         (
           simp rest-is (q .next),
-          λ l. let N = judged s (s .args .i + 1) l in (omega (arith, N .metres-low), N .metres-high, N .lanes-low, N .lanes-high),
+          λ l. area-ok (judged s (s .args .i + 1) l),
         ),
       ),
     )

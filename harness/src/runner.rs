@@ -8,8 +8,8 @@ use std::{env, fs};
 const LEAST_INPUTS: u64 = 500;
 /// Inputs between two progress lines of a fuzz run.
 const PROGRESS: u64 = 1_000_000;
-
-/// Rounds of a fuzz run in which each line and single input has one turn.
+/// Rounds of a fuzz run for one turn of a test that is asked for by the line
+/// or once.
 const ROUNDS: usize = 10;
 
 /// How much a comparison is to try.
@@ -54,11 +54,12 @@ pub fn fuzz(total: u64, seed: u64) -> usize {
 }
 
 impl Asked {
+    /// How many inputs that is for one test.
     fn of(&self, inputs: Inputs) -> u64 {
-        let share = |asked: u64, share: u64| (asked * share).div_ceil(100).max(LEAST_INPUTS);
+        let part = |asked: u64, share: u64| (asked * share).div_ceil(100).max(LEAST_INPUTS);
         match inputs {
-            Inputs::Files(of_hundred) => share(self.files, of_hundred),
-            Inputs::Steps(of_hundred) => share(self.steps, of_hundred),
+            Inputs::Files(share) => part(self.files, share),
+            Inputs::Steps(share) => part(self.steps, share),
             Inputs::Lines => self.lines,
             Inputs::Once => 1,
         }

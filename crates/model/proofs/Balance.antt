@@ -1,11 +1,9 @@
 -- No mv is made or lost in a step, and the new figures are within what was there and came. For any number of segments.
-use Prim.Native.Nat.{ℕ, zero, suc, _+_, _-_, _*_, _≤_, _<_}
+use Prim.Native.Nat.{ℕ, zero, suc, _+_, _≤_, _<_}
 use native.Mathlib.Omega.{arith}
-use mathlib.Core.Path.{_≡_, refl, sym, ap, _∙_}
+use mathlib.Core.Path.{_≡_, refl, ap}
 use mathlib.Core.List.{List}
 use lib.ListN.{getD}
-use lib.Ieee.{Float}
-use Rattle.laws.specs.Lists.{table}
 use Rattle.laws.specs.Sums.{sumOf}
 use Rattle.laws.proofs.Lists.{getD-table}
 use Rattle.laws.proofs.Sums.{sum-ext, sum-term}
@@ -14,7 +12,7 @@ use Rattle.network.specs.declared.Segment.{Segment}
 use Rattle.model.specs.declared.Row.{Row}
 use Rattle.model.specs.Case.{noRow, rowOf}
 use Rattle.model.specs.Speed.{newSpeed}
-use Rattle.model.specs.Step.{made, releaseNow, outflowNow, through, inflow, freeSpeed, stepRow, stepRows, exitNow, exitsNow, heldIn}
+use Rattle.model.specs.Step.{made, outflowNow, through, inflow, freeSpeed, stepRow, stepRows, exitNow, exitsNow, heldIn}
 use Rattle.model.specs.Ready.{SegmentOk, RowOk}
 use Rattle.model.proofs.SegmentLaws.{Within, keep-within, release-waits, outflow-at-most-count, exit-le}
 

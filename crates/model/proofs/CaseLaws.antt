@@ -14,9 +14,8 @@ use Rattle.laws.proofs.Lists.{table-ext, getD-set, getD-take-test}
 use Rattle.laws.proofs.Puts.{length-puts, drop-puts}
 use Rattle.laws.proofs.Sums.{sum-ext}
 use Rattle.network.specs.Words.{headIn, entryIn, segmentIn}
-use Rattle.model.specs.Case.{Case}
 use Rattle.model.specs.Step.{heldIn, stepOn}
-use Rattle.model.specs.Words.{netOf, rowIn, rowAt, rowsIn, caseIn, newWords, stepWords, stepSpeeds, totalsWords, leaving, stepCaseWords, stepCaseSpeeds}
+use Rattle.model.specs.Words.{netOf, rowIn, rowAt, rowsIn, caseIn, newWords, stepWords, totalsWords, leaving, stepCaseWords, stepCaseSpeeds}
 use Rattle.model.specs.Ready.{Ready, TotalsOk, heldAt}
 use Rattle.model.proofs.Turns.{row-is, words-each}
 use Rattle.model.proofs.ReadBack.{row-take, rows-back}

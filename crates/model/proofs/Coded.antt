@@ -1,13 +1,13 @@
 -- A case that is put into the words and speeds is read back as it was.
-use Prim.Native.Nat.{ℕ, _+_, _*_, _≤_, _<_}
+use Prim.Native.Nat.{ℕ, _+_, _*_, _<_}
 use mathlib.Core.Path.{_≡_, refl, sym, ap, _∙_}
 use mathlib.Core.List.{List, [], _∷_, _++_, append-assoc}
 use native.Mathlib.Omega.{arith}
-use native.Mathlib.Nat.{add-zero, add-assoc}
+use native.Mathlib.Nat.{add-zero}
 use lib.ListN.{length, take, drop, getD, List·getD-append}
 use lib.Seq.{drop-drop, drop-at, getD-drop, getD-append-add}
 use lib.Ieee.{Float, nan}
-use Rattle.laws.specs.Lists.{table, part, parts}
+use Rattle.laws.specs.Lists.{parts}
 use Rattle.laws.proofs.Lists.{length-table, getD-table, table-of, length-parts, parts-at}
 use Rattle.model.specs.declared.Row.{Row}
 use Rattle.model.specs.Case.{Case, noRow, rowOf}

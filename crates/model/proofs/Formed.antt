@@ -1,13 +1,13 @@
 -- One step keeps a row formed: its sign and its setting are as their calls permit, its rate is in range, and its speed is in 1,000..F.
 -- Its figures may pass 10¹²: those are bounded by what was there and came (Balance).
-use Prim.Native.Nat.{ℕ, _+_, _%_, _≤_, _<_, min, max}
-use mathlib.Core.Path.{_≡_, refl, sym, ap, _∙_}
-use mathlib.Core.Bool.{Bool, true, false, cond, not, _&&_, _||_, true≢false}
+use Prim.Native.Nat.{ℕ, _%_, _≤_, min, max}
+use mathlib.Core.Path.{_≡_, refl, sym, _∙_}
+use mathlib.Core.Bool.{Bool, true, false, cond, not, _&&_, _||_}
 use mathlib.Core.List.{[], _∷_}
 use native.Mathlib.Omega.{arith}
 use lib.Dec.{T, ltb, eqb}
 use lib.Ieee.{Float, le}
-use borrow.Author.Tests.{ltb-false, eqb-true, eq-eqb, ne-eqb}
+use borrow.Author.Tests.{ltb-false, eqb-true, eq-eqb}
 use Rattle.laws.specs.First.{anyOf, outside}
 use Rattle.laws.specs.Real.{real}
 use Rattle.laws.proofs.Tests.{or-left, or-right, anyOf-false, inside, inside-low, inside-high}

@@ -1,9 +1,7 @@
 -- The marked cases, computed.
 use mathlib.Core.Path.{refl}
 use lib.Ieee.{add, sub, mul, div, lt, le, ofInt, toUnsigned}
-use Rattle.laws.specs.Lists.{table}
 use Rattle.laws.specs.Sums.{sumOf}
-use Rattle.network.specs.Network.{networkFrom}
 use Rattle.network.specs.Marked.{oneSegment}
 use Rattle.network.proofs.Marked.{speed-limit}
 use Rattle.model.specs.Speed.{keep, newSpeed}

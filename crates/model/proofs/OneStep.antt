@@ -1,20 +1,19 @@
 -- One step over the arrays is one step of the case that they hold, and no vehicle is made or lost.
-use Prim.Native.Nat.{ℕ, _+_, _*_, _≤_, _<_}
-use mathlib.Core.Path.{_≡_, refl, sym, ap, _∙_}
+use Prim.Native.Nat.{ℕ, _+_, _*_, _<_}
+use mathlib.Core.Path.{_≡_, sym, ap, _∙_}
 use mathlib.Core.List.{List}
 use native.Mathlib.Omega.{arith}
 use lib.ListN.{getD}
 use lib.Ieee.{Float}
 use Rattle.laws.specs.Sums.{sumOf}
-use Rattle.network.specs.Network.{Network, networkFrom}
+use Rattle.network.specs.Network.{networkFrom}
 use Rattle.network.specs.Words.{headIn, entryIn, segmentIn, networkIn}
-use Rattle.model.specs.declared.Row.{Row}
 use Rattle.model.specs.Case.{Case, rowOf}
-use Rattle.model.specs.Step.{heldIn, exitsNow, stepRows, stepOn, stepCase, totalOf}
+use Rattle.model.specs.Step.{heldIn, exitsNow, stepRows, stepOn, stepCase}
 use Rattle.model.specs.Words.{netOf, rowsIn, caseIn}
-use Rattle.model.specs.Ready.{SegmentOk, RowOk, Ready, TotalsOk}
+use Rattle.model.specs.Ready.{RowOk, Ready}
 use Rattle.model.specs.Statements.{StepsTheCase, Balances}
-use Rattle.model.proofs.Turns.{row-is, at-size, segment-at}
+use Rattle.model.proofs.Turns.{row-is, segment-at}
 use Rattle.model.proofs.CaseLaws.{case-back}
 use Rattle.model.proofs.SameRoad.{step-from}
 use Rattle.model.proofs.Balance.{balance}

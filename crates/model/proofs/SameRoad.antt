@@ -1,14 +1,13 @@
 -- A step looks at nothing of a network but what its head says is there: networks that agree on that give the same step.
 use Prim.Native.Nat.{ℕ, zero, suc, _+_, _*_, _/_, _≤_, _<_}
-use mathlib.Core.Path.{_≡_, refl, sym, ap, _∙_}
-use mathlib.Core.Bool.{Bool, true, false, cond}
+use mathlib.Core.Path.{_≡_, refl, ap, _∙_}
+use mathlib.Core.Bool.{Bool, true, false}
 use mathlib.Core.List.{List}
 use native.Mathlib.Omega.{arith}
 use lib.Dec.{ltb, leb, lit<}
 use lib.ListN.{getD}
 use lib.Ieee.{Float}
 use borrow.Author.Tests.{ltb-true, leb-false}
-use Rattle.laws.specs.Lists.{table}
 use Rattle.laws.specs.Sums.{sumOf}
 use Rattle.laws.proofs.Lists.{table-ext}
 use Rattle.laws.proofs.Sums.{sum-ext}
@@ -20,7 +19,7 @@ use Rattle.model.specs.declared.Row.{Row}
 use Rattle.model.specs.Case.{Case, rowOf}
 use Rattle.model.specs.Flow.{exitPart}
 use Rattle.model.specs.Speed.{area, curveSpeed, signed}
-use Rattle.model.specs.Step.{density, signOf, desiredSpeed, outflowNow, through, made, heldIn, upstream, inflow, downstream, freeSpeed, merges, around, stepRow, stepRows, exitNow, exitsNow, stepOn, stepCase}
+use Rattle.model.specs.Step.{signOf, desiredSpeed, outflowNow, through, made, heldIn, upstream, inflow, downstream, freeSpeed, merges, stepRow, stepRows, exitNow, exitsNow, stepOn, stepCase}
 
 -- the speed of a curve, from the entries up to 200
 curve-speed-same : (e f : ℕ → ℕ) (n g : ℕ) → ((j : ℕ) → j < 201 → e j ≡ f j) → curveSpeed e n g ≡ curveSpeed f n g

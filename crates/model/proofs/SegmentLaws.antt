@@ -1,10 +1,9 @@
 -- Bounds of what a step makes of one segment.
-use Prim.Native.Nat.{ℕ, _+_, _-_, _*_, _/_, _%_, _≤_, _<_, min, max}
+use Prim.Native.Nat.{ℕ, _+_, _*_, _/_, _%_, _≤_, _<_, min, max}
 use native.Mathlib.Nat.{le-trans, le-of-eq, mul-comm, mul-assoc, mul-le-mul-left, mul-le-mul-right, div-le-of-le-mul}
 use native.Mathlib.Omega.{arith}
 use mathlib.Core.Bool.{Bool, true, false, cond, _&&_}
-use mathlib.Core.Path.{_≡_}
-use lib.Dec.{T, eqb, leb, lit<, lit≤}
+use lib.Dec.{T, eqb, lit<, lit≤}
 use lib.Ieee.{Float, lt, le, toUnsigned}
 use Rattle.laws.specs.Real.{real}
 use Rattle.laws.proofs.Reals.{real-le, whole-high, truncating, Truncates}
@@ -13,7 +12,7 @@ use Rattle.network.specs.declared.Segment.{Segment}
 use Rattle.network.specs.Accepted.{RowsWithin}
 use Rattle.model.specs.declared.Row.{Row}
 use Rattle.model.specs.Case.{openKind, alineaKind}
-use Rattle.model.specs.Flow.{exitPart, alineaRate, moved, rateChange, jamBound}
+use Rattle.model.specs.Flow.{exitPart, alineaRate, moved, rateChange}
 use Rattle.model.specs.Speed.{area, keep}
 use Rattle.model.specs.Step.{rateOf, rateNow, releaseNow, outflowNow, through}
 use Rattle.model.specs.Ready.{AreaOk, SegmentOk, RowOk}

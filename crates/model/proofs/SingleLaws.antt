@@ -1,19 +1,19 @@
 -- A network and one case that stand alone in the arrays: which row refuses a step of it, and that nothing does where it is ready.
 use Prim.Native.Nat.{ℕ, _+_, _*_, _≤_, _<_}
-use mathlib.Core.Path.{_≡_, refl, sym, ap, _∙_}
-use mathlib.Core.Bool.{Bool, true, false, not, _||_, _&&_}
+use mathlib.Core.Path.{_≡_, refl, sym, _∙_}
+use mathlib.Core.Bool.{false}
 use mathlib.Core.List.{List}
 use native.Mathlib.Omega.{arith}
 use native.Mathlib.Nat.{le-of-eq}
-use lib.Dec.{ltb, eqb, leb}
+use lib.Dec.{ltb}
 use lib.ListN.{length, getD, length-take}
 use lib.Ieee.{Float}
 use borrow.Author.Tests.{lt-ltb, le-ltb, ltb-false, eqb-true, not-false}
-use Rattle.laws.specs.First.{row, first, firstOf}
+use Rattle.laws.specs.First.{row, first}
 use Rattle.laws.proofs.First.{row-applies, row-skipped, row-passed, row-later, first-some, first-zero, first-zero-left, first-zero-right, firstOf-zero, when-accepted, when-refused}
 use Rattle.laws.proofs.Tests.{or-left}
 use Rattle.network.specs.Words.{headIn, entryIn, segmentIn, keptNumber}
-use Rattle.network.proofs.Keeping.{kept-within, kept-long}
+use Rattle.network.proofs.Keeping.{kept-within}
 use Rattle.model.specs.Words.{netOf, caseIn, stepCaseWords, stepCaseSpeeds}
 use Rattle.model.specs.Ready.{Ready, CaseAt, TotalsOk}
 use Rattle.model.specs.Sound.{caseNumber, arrivalNumber, stepNumber, singleSize, singleCase, singleNumber, singleWords, singleSpeeds}

@@ -1,15 +1,15 @@
 -- What the soundness of a case says.
 use Prim.Native.Nat.{ℕ, _+_, _*_, _≤_, _<_}
 use mathlib.Core.Path.{_≡_, refl, sym, ap, _∙_, subst}
-use mathlib.Core.Bool.{Bool, true, false, cond, not, _&&_, _||_, true≢false}
+use mathlib.Core.Bool.{Bool, true, false, cond, not, _||_, true≢false}
 use mathlib.Core.List.{List}
 use native.Mathlib.Omega.{arith}
 use native.Mathlib.Nat.{add-zero, le-of-eq}
 use lib.Seq.{getD-drop}
 use lib.Dec.{T, ltb, eqb}
-use lib.ListN.{length, getD}
+use lib.ListN.{getD}
 use lib.Ieee.{Float, le}
-use borrow.Author.Tests.{ltb-false, eqb-true, eqb-false, not-false, leb-false, eq-eqb}
+use borrow.Author.Tests.{ltb-false, eqb-true, not-false}
 use Rattle.laws.specs.First.{outside, row, first}
 use Rattle.laws.specs.Real.{real}
 use Rattle.laws.specs.Sums.{sumOf}
@@ -19,15 +19,14 @@ use Rattle.laws.proofs.Sums.{sum-ext}
 use Rattle.laws.proofs.Lists.{getD-table}
 use Rattle.network.specs.Words.{headIn, entryIn, segmentIn}
 use Rattle.laws.proofs.Tests.{or-left, or-right, and-left, and-right, anyOf-false, inside-low, inside-high}
-use Rattle.network.specs.declared.Head.{Head}
 use Rattle.network.specs.declared.Segment.{Segment}
 use Rattle.model.specs.declared.Row.{Row}
-use Rattle.model.specs.Case.{Case, noRow, rowOf, alineaKind}
+use Rattle.model.specs.Case.{noRow, rowOf, alineaKind}
 use Rattle.model.specs.Step.{heldIn, freeSpeed, merges}
 use Rattle.model.specs.Words.{netOf, rowIn, rowAt, rowsIn, caseIn}
 use Rattle.model.specs.Ready.{RowOk, CaseAt, TotalsOk, heldAt}
 use Rattle.model.proofs.SegmentLaws.{segment-ok}
-use Rattle.model.specs.Sound.{signBad, hasAlinea, openBad, fixedBad, alineaBad, settingBad, speedBad, rowBad, totalsBad, rowNumber, caseNumber, arrivalNumber, stepNumber}
+use Rattle.model.specs.Sound.{signBad, hasAlinea, openBad, fixedBad, alineaBad, settingBad, speedBad, rowBad, totalsBad, rowNumber, caseNumber}
 
 pub row-read : (words : List ℕ) (speeds : List Float) (at from n i : ℕ) → i < n → rowOf (rowsIn words speeds at from n) i ≡ rowAt words speeds at from i
 unfolding rowsIn

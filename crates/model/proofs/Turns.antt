@@ -4,8 +4,8 @@ use native.Mathlib.Nat.{le-trans, le-of-eq, add-zero, one-mul}
 use native.Mathlib.Numerals.{add-one}
 use native.Mathlib.Omega.{arith}
 use mathlib.Core.Path.{_≡_, refl, sym, ap, _∙_}
-use mathlib.Core.Bool.{Bool, true, false, cond}
-use mathlib.Core.List.{List, [], _∷_, _++_}
+use mathlib.Core.Bool.{Bool, true, false}
+use mathlib.Core.List.{List, _∷_, _++_}
 use lib.ListN.{length, take, drop, set, getD, length-drop, length-take, length-set}
 use lib.Seq.{take-take, getD-drop, drop-drop, set-split}
 use lib.Dec.{ltb}
@@ -19,7 +19,7 @@ use Rattle.model.specs.Case.{rowOf}
 use Rattle.model.specs.Flow.{exitPart}
 use Rattle.model.specs.Step.{density, through, outflowNow, made, inflow, upstream, downstream, stepRow, exitNow}
 use Rattle.model.specs.Words.{netOf, rowIn, rowAt, rowsIn, rowWords, newRow, newWords, newSpeeds, stepWords, stepSpeeds}
-use Rattle.model.specs.Ready.{SegmentOk, RowOk, Ready, FreshOk, afterIn, freshIn}
+use Rattle.model.specs.Ready.{SegmentOk, Ready, FreshOk, afterIn, freshIn}
 use Rattle.model.proofs.SoundLaws.{row-read}
 use Rattle.model.proofs.SegmentLaws.{segment-ok, through-at-most-count, outflow-at-most-count, exit-le}
 

@@ -5,7 +5,7 @@ use mathlib.Core.List.{List}
 use mathlib.Core.Bool.{cond, _&&_}
 use lib.ListN.{getD, drop, length}
 use lib.Dec.{T, eqb, ltb}
-use lib.Ieee.{Float, nan, le}
+use lib.Ieee.{Float, le}
 use Rattle.laws.specs.Real.{real, _⊘_}
 use Rattle.network.specs.declared.Head.{Head}
 use Rattle.network.specs.declared.Segment.{Segment}

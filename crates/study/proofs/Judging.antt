@@ -1,6 +1,6 @@
 -- Where a study's cases stand, and which row says that it is not sound.
 use Prim.Native.Nat.{ℕ, _+_, _*_, _≤_, _<_}
-use mathlib.Core.Path.{_≡_, refl, sym, ap, _∙_}
+use mathlib.Core.Path.{_≡_, sym, _∙_}
 use mathlib.Core.Bool.{Bool, true, false, _||_}
 use mathlib.Core.List.{List}
 use native.Mathlib.Nat.{mul-le-mul-right, le-of-eq}
@@ -12,7 +12,6 @@ use borrow.Author.Tests.{lt-ltb, le-ltb}
 use Rattle.laws.specs.First.{firstOf}
 use Rattle.laws.proofs.First.{row-applies, row-skipped, first-some, first-zero}
 use Rattle.network.specs.Words.{keptNumber}
-use Rattle.network.proofs.Keeping.{kept-within}
 use Rattle.model.specs.Words.{netOf}
 use Rattle.model.specs.Ready.{CaseAt}
 use Rattle.study.specs.Arrangement.{caseWord, caseSpeed, wordsFor, speedsFor, sizeAt, runCountAt}

@@ -3,7 +3,11 @@
 
 use super::Difference;
 use crate::engine;
-use crate::single::{self, Single};
+use crate::single::{word_name, Single};
+
+/// Elements just past the lent ones, which no call may touch, and their bits.
+const GUARDS: usize = 24;
+const GUARD: u64 = 0x5afe_9a2d_5afe_9a2d;
 
 /// The arguments of one call.
 #[derive(Clone, Copy)]
@@ -20,6 +24,41 @@ pub struct Left {
     pub speeds: Vec<f64>,
 }
 
+/// Both sides answer this number and leave the same arrays; where it is not
+/// 0, the arrays stay.
+pub fn expect_number(lent: Lent, number: u64, what: &str) -> Result<Left, Difference> {
+    let oracle = oracle_side(lent);
+    if oracle.number != number {
+        let what = format!("{what}: expected {number}, oracle {}", oracle.number);
+        return Err(lent.differs(what));
+    }
+    let expected = match number {
+        0 => oracle,
+        _ => lent.unchanged(number),
+    };
+    expect(lent, &expected, what)?;
+    Ok(expected)
+}
+
+/// Both sides answer the same number and leave the same arrays.
+pub fn expect_agreement(lent: Lent, what: &str) -> Result<Left, Difference> {
+    let number = oracle_side(lent).number;
+    expect_number(lent, number, what)
+}
+
+/// The engine answers and leaves exactly this.
+pub fn expect(lent: Lent, expected: &Left, what: &str) -> Result<(), Difference> {
+    let (engine, guarded) = engine_side(lent);
+    let found = match guarded {
+        true => first_difference(expected, &engine),
+        false => Some("engine wrote past the lent arrays".to_string()),
+    };
+    match found {
+        None => Ok(()),
+        Some(found) => Err(lent.differs(format!("{what}: {found}"))),
+    }
+}
+
 impl<'a> Lent<'a> {
     pub fn of(single: &'a Single, arrivals: &'a [u32]) -> Lent<'a> {
         Lent {
@@ -27,21 +66,6 @@ impl<'a> Lent<'a> {
             speeds: &single.speeds,
             arrivals,
         }
-    }
-
-    /// The answer of a refused call: the number, and nothing changed.
-    fn refused(self, number: u64) -> Left {
-        Left {
-            number,
-            words: self.words.to_vec(),
-            speeds: self.speeds.to_vec(),
-        }
-    }
-
-    fn stepped(self, step: impl Fn(&mut [u64], &mut [f64], &[u32]) -> u64) -> Left {
-        let mut left = self.refused(0);
-        left.number = step(&mut left.words, &mut left.speeds, self.arrivals);
-        left
     }
 
     /// A difference at this input.
@@ -56,6 +80,15 @@ impl<'a> Lent<'a> {
         }
     }
 
+    /// This number, and the arrays as they are.
+    fn unchanged(self, number: u64) -> Left {
+        Left {
+            number,
+            words: self.words.to_vec(),
+            speeds: self.speeds.to_vec(),
+        }
+    }
+
     /// Words and speed bits as 8 bytes each, then arrivals as 4 bytes each,
     /// all big-endian.
     fn bytes(self) -> Vec<u8> {
@@ -67,59 +100,50 @@ impl<'a> Lent<'a> {
     }
 }
 
-/// Both sides answer this number and leave the same arrays; where it is not
-/// 0, the arrays stay.
-pub fn expect_number(lent: Lent, number: u64, what: &str) -> Result<Left, Difference> {
-    let oracle = oracle_side(lent);
-    if oracle.number != number {
-        let what = format!("{what}: expected {number}, oracle {}", oracle.number);
-        return Err(lent.differs(what));
-    }
-    let expected = match number {
-        0 => oracle,
-        _ => lent.refused(number),
-    };
-    expect(lent, &expected, what)?;
-    Ok(expected)
-}
-
-/// Both sides answer the same number and leave the same arrays.
-pub fn expect_agreement(lent: Lent, what: &str) -> Result<Left, Difference> {
-    let number = oracle_side(lent).number;
-    expect_number(lent, number, what)
-}
-
-/// The engine answers and leaves exactly this.
-pub fn expect(lent: Lent, expected: &Left, what: &str) -> Result<(), Difference> {
-    let engine = lent.stepped(engine::step);
-    match first_difference(expected, &engine) {
-        None => Ok(()),
-        Some(found) => Err(lent.differs(format!("{what}: {found}"))),
-    }
-}
-
 fn oracle_side(lent: Lent) -> Left {
-    lent.stepped(|words, speeds, arrivals| u64::from(oracle::single::step(words, speeds, arrivals)))
+    let mut left = lent.unchanged(0);
+    let number = oracle::single::step(&mut left.words, &mut left.speeds, lent.arrivals);
+    left.number = u64::from(number);
+    left
+}
+
+/// What the engine leaves, and whether what stands behind the lent arrays
+/// stayed.
+fn engine_side(lent: Lent) -> (Left, bool) {
+    let (words, speeds) = (lent.words.len(), lent.speeds.len());
+    let mut left = lent.unchanged(0);
+    left.words.resize(words + GUARDS, GUARD);
+    left.speeds.resize(speeds + GUARDS, f64::from_bits(GUARD));
+    let lent_words = &mut left.words[..words];
+    let lent_speeds = &mut left.speeds[..speeds];
+    left.number = engine::step(lent_words, lent_speeds, lent.arrivals);
+    let stayed = left.words[words..].iter().all(|&word| word == GUARD)
+        && left.speeds[speeds..]
+            .iter()
+            .all(|speed| speed.to_bits() == GUARD);
+    left.words.truncate(words);
+    left.speeds.truncate(speeds);
+    (left, stayed)
 }
 
 /// In words, or nothing where the two are the same.
 fn first_difference(expected: &Left, engine: &Left) -> Option<String> {
     if expected.number != engine.number {
-        let numbers = (expected.number, engine.number);
-        return Some(format!("expected {}, engine {}", numbers.0, numbers.1));
+        let (right, wrong) = (expected.number, engine.number);
+        return Some(format!("expected {right}, engine {wrong}"));
     }
-    let unequal = |at: &usize| expected.words[*at] != engine.words[*at];
-    if let Some(at) = (0..expected.words.len()).find(unequal) {
-        let name = single::word_name(&expected.words, at);
+    let mut words = expected.words.iter().zip(&engine.words);
+    if let Some(at) = words.position(|(right, wrong)| right != wrong) {
+        let name = word_name(&expected.words, at);
         let (right, wrong) = (expected.words[at], engine.words[at]);
         return Some(format!("{name}: expected {right}, engine {wrong}"));
     }
-    let unequal = |at: &usize| expected.speeds[*at].to_bits() != engine.speeds[*at].to_bits();
-    let at = (0..expected.speeds.len()).find(unequal)?;
+    let mut speeds = expected.speeds.iter().zip(&engine.speeds);
+    let at = speeds.position(|(right, wrong)| right.to_bits() != wrong.to_bits())?;
     let (right, wrong) = (expected.speeds[at], engine.speeds[at]);
-    let bits = (right.to_bits(), wrong.to_bits());
+    let (right_bits, wrong_bits) = (right.to_bits(), wrong.to_bits());
     Some(format!(
-        "speed {at}: expected {right} ({:#x}), engine {wrong} ({:#x})",
-        bits.0, bits.1
+        "speed of segment {}: expected {right} ({right_bits:#x}), engine {wrong} ({wrong_bits:#x})",
+        at + 1
     ))
 }

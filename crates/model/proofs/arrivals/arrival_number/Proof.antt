@@ -1,7 +1,5 @@
-use mathlib.Core.Path.{_≡_, sym, _∙_}
-use mathlib.Core.Bool.{Bool, _||_, _&&_}
+use mathlib.Core.Path.{sym}
 use borrow.Author.Needs.{needs}
-use lib.Dec.{ltb, eqb}
 use Rattle.laws.proofs.First.{row-applies, row-skipped}
 use Rattle.model.specs.Sound.{arrivalNumber}
 use Rattle.model.proofs.arrivals.arrival_number.Statement.{statement}

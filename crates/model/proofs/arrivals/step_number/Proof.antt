@@ -1,7 +1,6 @@
 -- The list's length refuses, or an arrival, or the steps, or nothing does.
 use mathlib.Core.Path.{_≡_, sym, ap, _∙_}
-use mathlib.Core.Bool.{true, false, not}
-use native.Mathlib.Omega.{arith}
+use mathlib.Core.Bool.{false, not}
 use lib.Dec.{eqb}
 use lib.ListN.{length}
 use denote.Ref.{now}

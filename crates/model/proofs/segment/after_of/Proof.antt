@@ -1,5 +1,4 @@
 -- The next segment's density, or the boundary's below and at the critical density.
-use mathlib.Core.Path.{_≡_}
 use native.Mathlib.Omega.{arith}
 use borrow.Author.Needs.{needs}
 use borrow.Author.Tests.{lt-ltb, le-ltb}

@@ -1,6 +1,6 @@
 -- Each part is read from the network's words or from the row's, and the new row is made of them.
-use Prim.Native.Nat.{_<_, _≤_, _+_}
-use mathlib.Core.Path.{_≡_, sym}
+use Prim.Native.Nat.{_<_, _+_}
+use mathlib.Core.Path.{sym}
 use native.Mathlib.Omega.{arith}
 use lib.ListN.{length-drop}
 use lib.Seq.{length-take-le}

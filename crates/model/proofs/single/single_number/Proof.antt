@@ -1,15 +1,13 @@
 -- The network refuses, or the arrays' lengths, or the case, or the step's rows; each is asked where the ones before accept.
-use Prim.Native.Nat.{_+_, _*_, _≤_, _<_}
+use Prim.Native.Nat.{_+_, _*_, _≤_}
 use mathlib.Core.Path.{_≡_, sym, ap, _∙_}
 use native.Mathlib.Omega.{arith}
-use lib.ListN.{length, length-take}
+use lib.ListN.{length}
 use lib.Seq.{length-take-le}
 use denote.Ref.{now}
 use borrow.Author.Needs.{needs}
-use borrow.Author.Tests.{lt-ltb}
-use Rattle.laws.proofs.First.{row-applies}
 use Rattle.network.specs.declared.Head.{Head}
-use Rattle.network.specs.Words.{headIn, entryIn, segmentIn, keptNumber}
+use Rattle.network.specs.Words.{keptNumber}
 use Rattle.network.proofs.Keeping.{kept-within}
 use Rattle.model.specs.Words.{netOf}
 use Rattle.model.specs.Ready.{CaseAt}

@@ -1,7 +1,5 @@
 -- The rows refuse, or the totals, or nothing does.
-use Prim.Native.Nat.{ℕ}
-use mathlib.Core.Path.{_≡_, sym, ap, _∙_}
-use mathlib.Core.Bool.{Bool, true, false}
+use mathlib.Core.Path.{sym, _∙_}
 use borrow.Author.Needs.{needs}
 use Rattle.laws.proofs.First.{row-applies, row-skipped}
 use Rattle.model.proofs.SoundLaws.{held-each, case-rows, case-totals}

@@ -1,5 +1,4 @@
 -- The row, its segment and F are read, and tested.
-use Prim.Native.Nat.{_≤_}
 use mathlib.Core.Path.{_≡_, sym, _∙_}
 use native.Mathlib.Omega.{arith}
 use lib.Seq.{length-take-le}

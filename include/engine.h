@@ -34,7 +34,7 @@ uint64_t network_write(const uint64_t *kept, size_t kept_len, uint8_t *out, size
 /* One step of a network and one case that stand alone in the arrays (docs/ARRANGEMENT.md): the network in the first 2,560 words, the
  * case's rows and totals after it, its speeds from speeds[0] on. 12 where the arrays are too short, the network is out of range or the
  * case is not sound; 13 where arrivals_len is not the number of segments; 15 for an arrival out of range; 16 where the case has taken
- * 20,000 steps; 0 where the step was made. Words and speeds past the case stay. */
+ * 20,000 steps; 0 where the step was made. The network, signs, settings, free words and all that is past the case stay. */
 uint64_t case_step(uint64_t *words, size_t words_len, double *speeds, size_t speeds_len, const uint32_t *arrivals, size_t arrivals_len);
 
 #ifdef __cplusplus

@@ -12,7 +12,7 @@ use Rattle.network.specs.declared.Segment.{Segment}
 use Rattle.model.specs.declared.Row.{Row}
 use Rattle.model.specs.Case.{noRow, rowOf}
 use Rattle.model.specs.Speed.{newSpeed}
-use Rattle.model.specs.Step.{made, outflowNow, through, inflow, freeSpeed, stepRow, stepRows, exitNow, exitsNow, heldIn}
+use Rattle.model.specs.Step.{made, outflowNow, through, inflow, freeSpeed, stepRow, stepRows, exitNow, exitsNow, vehiclesIn}
 use Rattle.model.specs.Ready.{SegmentOk, RowOk}
 use Rattle.model.proofs.SegmentLaws.{Within, keep-within, release-waits, outflow-at-most-count, exit-le}
 
@@ -42,7 +42,7 @@ module _ (h : Head) (entry : ℕ → ℕ → ℕ) (segment : ℕ → Segment) (r
   new-within i l = rw (new-is i l) (keep-within (freeSpeed h entry segment i) (ok i l .slow) (ok i l .fast) _)
 
   -- one segment: what is there after, with what flows out, is what was there before, with what came
-  one : (i : ℕ) → i < h .size → new i .count + new i .queue + out i ≡ heldIn rows i + getD ds i 0 + inflow h entry segment rows i
+  one : (i : ℕ) → i < h .size → new i .count + new i .queue + out i ≡ vehiclesIn rows i + getD ds i 0 + inflow h entry segment rows i
   unfolding stepRow made
   one i l = omega (arith, release-waits (ok i l) (row i l) t (getD ds i 0), outflow-at-most-count (ok i l) (row i l))
 
@@ -53,21 +53,21 @@ module _ (h : Head) (entry : ℕ → ℕ → ℕ) (segment : ℕ → Segment) (r
 
   -- all segments below k
   below : (k : ℕ) → k ≤ h .size
-      → sumOf (λ i. new i .count + new i .queue) k + sumOf (exitNow h entry segment rows) k + inflow h entry segment rows k ≡ sumOf (heldIn rows) k + sumOf (λ i. getD ds i 0) k
+      → sumOf (λ i. new i .count + new i .queue) k + sumOf (exitNow h entry segment rows) k + inflow h entry segment rows k ≡ sumOf (vehiclesIn rows) k + sumOf (λ i. getD ds i 0) k
   unfolding sumOf
   below zero l = unfold inflow in refl
   below (suc k) l = omega (arith, below k (omega arith), one k l, split k l)
 
-  held-new : sumOf (heldIn (stepRows h entry segment rows t ds)) (h .size) ≡ sumOf (λ i. new i .count + new i .queue) (h .size)
+  held-new : sumOf (vehiclesIn (stepRows h entry segment rows t ds)) (h .size) ≡ sumOf (λ i. new i .count + new i .queue) (h .size)
   held-new = sum-ext _ (λ i. new i .count + new i .queue) (h .size) (λ i l. ap (λ (r : Row). r .count + r .queue) (new-is i l))
 
   -- total after + let out ≡ total before + arrivals
-  pub balance : sumOf (heldIn (stepRows h entry segment rows t ds)) (h .size) + exitsNow h entry segment rows ≡ sumOf (heldIn rows) (h .size) + sumOf (λ i. getD ds i 0) (h .size)
+  pub balance : sumOf (vehiclesIn (stepRows h entry segment rows t ds)) (h .size) + exitsNow h entry segment rows ≡ sumOf (vehiclesIn rows) (h .size) + sumOf (λ i. getD ds i 0) (h .size)
   balance = omega (arith, held-new, below (h .size) (omega arith))
 
   -- what was there and came
   abbrev all : ℕ
-  all = sumOf (heldIn rows) (h .size) + sumOf (λ i. getD ds i 0) (h .size)
+  all = sumOf (vehiclesIn rows) (h .size) + sumOf (λ i. getD ds i 0) (h .size)
 
   -- every figure of a new row is at most that
   new-figures : (i : ℕ) → i < h .size → (new i .count ≤ all) × (new i .queue ≤ all) × (new i .outflow ≤ all) × (new i .release ≤ all)
@@ -75,7 +75,7 @@ module _ (h : Head) (entry : ℕ → ℕ → ℕ) (segment : ℕ → Segment) (r
   new-figures i l =
       let total = below (h .size) (omega arith) in
       let after = sum-term (λ i. new i .count + new i .queue) (h .size) i l in
-      let before = sum-term (heldIn rows) (h .size) i l in
+      let before = sum-term (vehiclesIn rows) (h .size) i l in
       let came = sum-term (λ i. getD ds i 0) (h .size) i l in (
         omega (arith, total, after),
         omega (arith, total, after),

@@ -12,24 +12,17 @@ use Rattle.laws.specs.Lists.{part}
 use Rattle.laws.specs.Sums.{sumOf}
 use Rattle.laws.proofs.Lists.{table-ext, getD-set, getD-take-test}
 use Rattle.laws.proofs.Puts.{length-puts, drop-puts}
-use Rattle.laws.proofs.Sums.{sum-ext}
 use Rattle.network.specs.Words.{headIn, entryIn, segmentIn}
-use Rattle.model.specs.Step.{heldIn, stepOn}
+use Rattle.model.specs.Step.{vehiclesIn, stepOn}
 use Rattle.model.specs.Words.{netOf, rowIn, rowAt, rowsIn, caseIn, newWords, stepWords, totalsWords, leaving, stepCaseWords, stepCaseSpeeds}
-use Rattle.model.specs.Ready.{Ready, TotalsOk, heldAt}
+use Rattle.model.specs.Ready.{Ready, TotalsOk, vehiclesAt}
 use Rattle.model.proofs.Turns.{row-is, words-each}
+use Rattle.model.proofs.SoundLaws.{vehicles-are, vehicles-sum}
 use Rattle.model.proofs.ReadBack.{row-take, rows-back}
 
 module _ {ws : List ℕ} {vs : List Float} {ds : List ℕ} {at from n : ℕ} (ok : Ready ws vs ds at from n) where
-  held-at : (i : ℕ) → i < n → heldAt ws at i ≡ heldIn (rowsIn ws vs at from n) i
-  unfolding rowIn
-  held-at i h = simp (row-is ok i h, getD-drop, add-zero)
-
-  pub held-high : (i : ℕ) → i < n → heldAt ws at i ≤ 2000000000000
-  held-high i h = rw (held-at i h) (rw (row-is ok i h) (omega (arith, ok .row i h .count, ok .row i h .queue)))
-
-  held-sum : sumOf (heldAt ws at) n ≡ sumOf (heldIn (rowsIn ws vs at from n)) n
-  held-sum = sum-ext (heldAt ws at) (heldIn (rowsIn ws vs at from n)) n held-at
+  pub vehicles-high : (i : ℕ) → i < n → vehiclesAt ws at i ≤ 2000000000000
+  vehicles-high i h = rw (vehicles-are ws vs at from n i h) (rw (row-is ok i h) (omega (arith, ok .row i h .count, ok .row i h .queue)))
 
   step-is : headIn (netOf ws) .step ≡ getD ws 0 0
   unfolding headIn
@@ -74,12 +67,12 @@ module _ {ws : List ℕ} {vs : List Float} {ds : List ℕ} {at from n : ℕ} (ok
         )
 
     pub case-made : {k came left held : ℕ} {ys : List ℕ} → k ≡ 8
-        → came ≡ sumOf (λ i. getD ds i 0) n → left ≡ leaving ws vs at from n → held ≡ sumOf (heldAt ws at) n
+        → came ≡ sumOf (λ i. getD ds i 0) n → left ≡ leaving ws vs at from n → held ≡ sumOf (vehiclesAt ws at) n
         → ys ≡ totalsWords (part e k words) came left (getD ws 0 0 * held)
         → take e words ++ (ys ++ drop k (drop e words)) ≡ stepCaseWords ws vs at from n ds
     case-made {k} s came left held y =
         λ j. take e (made j)
-        ++ ((y ∙ (λ m. totalsWords (totals-kept k s m) (came m) (left m) (getD ws 0 0 * (held ∙ held-sum ok) m))) j
+        ++ ((y ∙ (λ m. totalsWords (totals-kept k s m) (came m) (left m) (getD ws 0 0 * (held ∙ vehicles-sum ws vs at from n) m))) j
         ++ drop (s j) (drop e (made j)))
 
 -- ---- the case that is read back is the step of the case that was there
@@ -96,7 +89,7 @@ module _ {ws : List ℕ} {vs : List Float} {ds : List ℕ} {at from n : ℕ} (ok
   after = stepCaseWords ws vs at from n ds
 
   totals : List ℕ
-  totals = totalsWords (part (e ok tot) 8 ws) (sumOf (λ i. getD ds i 0) n) (leaving ws vs at from n) (getD ws 0 0 * sumOf (heldIn (rowsIn ws vs at from n)) n)
+  totals = totalsWords (part (e ok tot) 8 ws) (sumOf (λ i. getD ds i 0) n) (leaving ws vs at from n) (getD ws 0 0 * sumOf (vehiclesIn (rowsIn ws vs at from n)) n)
 
   front : length (take (e ok tot) made) ≡ e ok tot
   front = length-take-le (e ok tot) made (omega (arith, made-length ok (t ok tot), ok .room))
@@ -152,5 +145,5 @@ module _ {ws : List ℕ} {vs : List Float} {ds : List ℕ} {at from n : ℕ} (ok
       exits-is : getD after (at + 16 * n + 2) 0 ≡ getD ws (at + 16 * n + 2) 0 + leaving ws vs at from n
       exits-is = total-at 2 (omega arith) ∙ simp (getD-set, length-set, long, getD-take-test 8 (drop (at + 16 * n) ws), getD-drop)
 
-      time-is : getD after (at + 16 * n + 3) 0 ≡ getD ws (at + 16 * n + 3) 0 + headIn (netOf ws) .step * sumOf (heldIn (rowsIn ws vs at from n)) (headIn (netOf ws) .size)
+      time-is : getD after (at + 16 * n + 3) 0 ≡ getD ws (at + 16 * n + 3) 0 + headIn (netOf ws) .step * sumOf (vehiclesIn (rowsIn ws vs at from n)) (headIn (netOf ws) .size)
       time-is = total-at 3 (omega arith) ∙ simp (getD-set, length-set, long, getD-take-test 8 (drop (at + 16 * n) ws), getD-drop, size-is, step-is ok)

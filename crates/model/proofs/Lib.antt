@@ -8,6 +8,6 @@ pub mod SoundLaws
 pub mod SingleLaws
 pub mod MarkedCases
 pub mod Formed
-pub mod SameRoad
+pub mod SameNetwork
 pub mod OneStep
 pub mod Coded

@@ -9,13 +9,13 @@ use Rattle.laws.specs.Sums.{sumOf}
 use Rattle.network.specs.Network.{networkFrom}
 use Rattle.network.specs.Words.{headIn, entryIn, segmentIn, networkIn}
 use Rattle.model.specs.Case.{Case, rowOf}
-use Rattle.model.specs.Step.{heldIn, exitsNow, stepRows, stepOn, stepCase}
+use Rattle.model.specs.Step.{vehiclesIn, exitsNow, stepRows, stepOn, stepCase}
 use Rattle.model.specs.Words.{netOf, rowsIn, caseIn}
 use Rattle.model.specs.Ready.{RowOk, Ready}
 use Rattle.model.specs.Statements.{StepsTheCase, Balances}
 use Rattle.model.proofs.Turns.{row-is, segment-at}
 use Rattle.model.proofs.CaseLaws.{case-back}
-use Rattle.model.proofs.SameRoad.{step-from}
+use Rattle.model.proofs.SameNetwork.{step-from}
 use Rattle.model.proofs.Balance.{balance}
 
 module _ {words : List ℕ} {speeds : List Float} {ds : List ℕ} {at from n : ℕ} (ok : Ready words speeds ds at from n) where
@@ -39,15 +39,15 @@ module _ {words : List ℕ} {speeds : List Float} {ds : List ℕ} {at from n : �
       rw (row-is ok i m) (ok .row i m)
 
   moved : (t : ℕ) → let h = headIn (netOf words) in let rows = rowsIn words speeds at from n in
-      sumOf (heldIn (stepRows h (entryIn (netOf words)) (segmentIn (netOf words)) rows t ds)) (h .size) + exitsNow h (entryIn (netOf words)) (segmentIn (netOf words)) rows
-      ≡ sumOf (heldIn rows) (h .size) + sumOf (λ i. getD ds i 0) (h .size)
+      sumOf (vehiclesIn (stepRows h (entryIn (netOf words)) (segmentIn (netOf words)) rows t ds)) (h .size) + exitsNow h (entryIn (netOf words)) (segmentIn (netOf words)) rows
+      ≡ sumOf (vehiclesIn rows) (h .size) + sumOf (λ i. getD ds i 0) (h .size)
   moved t =
       balance (headIn (netOf words)) (entryIn (netOf words)) (segmentIn (netOf words)) (rowsIn words speeds at from n) t ds
       (λ i l. segment-at ok i (omega (arith, ok .size))) row-held
 
   on-words : let h = headIn (netOf words) in
       let new = stepOn h (entryIn (netOf words)) (segmentIn (netOf words)) old ds in
-      sumOf (heldIn (new .rows)) (h .size) + new .exits ≡ sumOf (heldIn (old .rows)) (h .size) + old .exits + sumOf (λ i. getD ds i 0) (h .size)
+      sumOf (vehiclesIn (new .rows)) (h .size) + new .exits ≡ sumOf (vehiclesIn (old .rows)) (h .size) + old .exits + sumOf (λ i. getD ds i 0) (h .size)
   unfolding stepOn caseIn
   on-words = regroup _ _ _ _ _ (moved (getD words (at + 16 * n) 0))
     where
@@ -57,6 +57,6 @@ module _ {words : List ℕ} {speeds : List Float} {ds : List ℕ} {at from n : �
 pub balances : Balances
 unfolding networkFrom
 balances words speeds ds at from n ok =
-    ap (λ (c : Case). sumOf (heldIn (c .rows)) (headIn (netOf words) .size) + c .exits) (step-on-words ok (caseIn words speeds at from n))
+    ap (λ (c : Case). sumOf (vehiclesIn (c .rows)) (headIn (netOf words) .size) + c .exits) (step-on-words ok (caseIn words speeds at from n))
     ∙ on-words ok
-    ∙ ap (λ (m : ℕ). sumOf (heldIn (caseIn words speeds at from n .rows)) (headIn (netOf words) .size) + caseIn words speeds at from n .exits + sumOf (λ i. getD ds i 0) m) (sym (ok .size))
+    ∙ ap (λ (m : ℕ). sumOf (vehiclesIn (caseIn words speeds at from n .rows)) (headIn (netOf words) .size) + caseIn words speeds at from n .exits + sumOf (λ i. getD ds i 0) m) (sym (ok .size))

@@ -1,4 +1,4 @@
--- A network and one case that stand alone in the arrays: which row refuses a step of it, and that nothing does where it is ready.
+-- A network and one case that stand alone in the arrays: which row refuses a step of it, and what acceptance says.
 use Prim.Native.Nat.{ℕ, _+_, _*_, _≤_, _<_}
 use mathlib.Core.Path.{_≡_, refl, sym, _∙_}
 use mathlib.Core.Bool.{false}

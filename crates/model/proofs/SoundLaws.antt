@@ -22,15 +22,23 @@ use Rattle.laws.proofs.Tests.{or-left, or-right, and-left, and-right, anyOf-fal
 use Rattle.network.specs.declared.Segment.{Segment}
 use Rattle.model.specs.declared.Row.{Row}
 use Rattle.model.specs.Case.{noRow, rowOf, alineaKind}
-use Rattle.model.specs.Step.{heldIn, freeSpeed, merges}
+use Rattle.model.specs.Step.{vehiclesIn, freeSpeed, merges}
 use Rattle.model.specs.Words.{netOf, rowIn, rowAt, rowsIn, caseIn}
-use Rattle.model.specs.Ready.{RowOk, CaseAt, TotalsOk, heldAt}
+use Rattle.model.specs.Ready.{RowOk, CaseAt, TotalsOk, vehiclesAt}
 use Rattle.model.proofs.SegmentLaws.{segment-ok}
 use Rattle.model.specs.Sound.{signBad, hasAlinea, openBad, fixedBad, alineaBad, settingBad, speedBad, rowBad, totalsBad, rowNumber, caseNumber}
 
 pub row-read : (words : List ℕ) (speeds : List Float) (at from n i : ℕ) → i < n → rowOf (rowsIn words speeds at from n) i ≡ rowAt words speeds at from i
 unfolding rowsIn
 row-read words speeds at from n i h = getD-table (rowAt words speeds at from) n i noRow h
+
+-- the mv of a case, read in the words
+pub vehicles-are : (words : List ℕ) (speeds : List Float) (at from n i : ℕ) → i < n → vehiclesAt words at i ≡ vehiclesIn (rowsIn words speeds at from n) i
+unfolding rowIn
+vehicles-are words speeds at from n i l = simp (row-read words speeds at from n i l, getD-drop, add-zero)
+
+pub vehicles-sum : (words : List ℕ) (speeds : List Float) (at from n : ℕ) → sumOf (vehiclesAt words at) n ≡ sumOf (vehiclesIn (rowsIn words speeds at from n)) n
+vehicles-sum words speeds at from n = sum-ext (vehiclesAt words at) (vehiclesIn (rowsIn words speeds at from n)) n (vehicles-are words speeds at from n)
 
 -- ---- what a row that is not bad says
 
@@ -126,7 +134,7 @@ module _ {words : List ℕ} {speeds : List Float} {at from n : ℕ} (at-place : 
   abbrev rows : List Row
   rows = rowsIn words speeds at from n
 
-  -- row i, where rows up to it passed
+  -- row i, where it passed
   pub row-sound : (i : ℕ) → i < n → rowNumber (headIn net) (entryIn net) (segmentIn net) rows i ≡ 0
       → RowOk (segmentIn net i) (entryIn net (segmentIn net i .curve) 0) (rowAt words speeds at from i)
   unfolding rowNumber
@@ -141,18 +149,11 @@ module _ {words : List ℕ} {speeds : List Float} {at from n : ℕ} (at-place : 
     pub rows-sound : (i : ℕ) → i < n → RowOk (segmentIn net i) (entryIn net (segmentIn net i .curve) 0) (rowAt words speeds at from i)
     rows-sound i l = row-sound i l (firstOf-zero _ n z i l)
 
-    held-is : (i : ℕ) → i < n → heldAt words at i ≡ heldIn rows i
-    unfolding rowIn
-    held-is i l = simp (row-read words speeds at from n i l, getD-drop, add-zero)
-
-    pub held-sum : sumOf (heldAt words at) n ≡ sumOf (heldIn rows) n
-    held-sum = sum-ext (heldAt words at) (heldIn rows) n held-is
-
-    pub held-each : (i : ℕ) → i < n → heldAt words at i ≤ 2000000000000
-    held-each i l = rw (held-is i l) (rw (row-read words speeds at from n i l) (omega (arith, rows-sound i l .count, rows-sound i l .queue)))
+    pub vehicles-each : (i : ℕ) → i < n → vehiclesAt words at i ≤ 2000000000000
+    vehicles-each i l = rw (vehicles-are words speeds at from n i l) (rw (row-read words speeds at from n i l) (omega (arith, rows-sound i l .count, rows-sound i l .queue)))
 
     -- the totals' place holds the case's totals
-    pub totals-sound : row (totalsBad (sumOf (heldIn rows) n) (getD words (at + 16 * n) 0) (getD words (at + 16 * n + 1) 0) (getD words (at + 16 * n + 2) 0) (getD words (at + 16 * n + 3) 0)) 12 0 ≡ 0
+    pub totals-sound : row (totalsBad (sumOf (vehiclesIn rows) n) (getD words (at + 16 * n) 0) (getD words (at + 16 * n + 1) 0) (getD words (at + 16 * n + 2) 0) (getD words (at + 16 * n + 3) 0)) 12 0 ≡ 0
         → TotalsOk words (at + 16 * n)
     unfolding totalsBad
     totals-sound q =
@@ -175,17 +176,17 @@ module _ {words : List ℕ} {speeds : List Float} {at from n : ℕ} (at-place : 
   abbrev number : ℕ
   number = caseNumber (headIn net) (entryIn net) (segmentIn net) (caseIn words speeds at from n)
 
-  number-is : number ≡ first inRows (inTotals (sumOf (heldIn rows) n))
+  number-is : number ≡ first inRows (inTotals (sumOf (vehiclesIn rows) n))
   unfolding caseNumber caseIn
   number-is =
       λ j. first (firstOf (rowNumber (headIn net) (entryIn net) (segmentIn net) rows) (sym (at-place .size) j))
-      (row (totalsBad (sumOf (heldIn rows) (sym (at-place .size) j)) (getD words (at + 16 * n) 0) (getD words (at + 16 * n + 1) 0) (getD words (at + 16 * n + 2) 0) (getD words (at + 16 * n + 3) 0)) 12 0)
+      (row (totalsBad (sumOf (vehiclesIn rows) (sym (at-place .size) j)) (getD words (at + 16 * n) 0) (getD words (at + 16 * n + 1) 0) (getD words (at + 16 * n + 2) 0) (getD words (at + 16 * n + 3) 0)) 12 0)
 
   pub case-rows : {r : ℕ} → r ≡ inRows → (r ≡ 0 → ⊥) → r ≡ number
   case-rows e some = e ∙ sym (number-is ∙ first-some _ _ (λ z. some (e ∙ z)))
 
-  pub case-totals : {r held : ℕ} → inRows ≡ 0 → held ≡ sumOf (heldAt words at) n → r ≡ inTotals held → r ≡ number
-  case-totals z is e = e ∙ ap inTotals (is ∙ held-sum z) ∙ sym (number-is ∙ first-zero _ _ z)
+  pub case-totals : {r held : ℕ} → inRows ≡ 0 → held ≡ sumOf (vehiclesAt words at) n → r ≡ inTotals held → r ≡ number
+  case-totals z is e = e ∙ ap inTotals (is ∙ vehicles-sum words speeds at from n) ∙ sym (number-is ∙ first-zero _ _ z)
 
   -- what a sound case says of its rows and totals
   module _ (z : number ≡ 0) where

@@ -17,7 +17,7 @@ use Rattle.model.specs.Speed.{area}
 use Rattle.model.specs.Step.{made, desiredSpeed}
 use Rattle.model.specs.Words.{netOf, rowIn, rowAt, stepWords, stepSpeeds, leaving}
 
--- a segment's area is at least 1 and at most 16,000
+-- length and lanes are such that G is 1..16,000
 pub record AreaOk (s : Segment) : Type 0 where
   pub metres-low : 1 ≤ s .metres
   pub metres-high : s .metres ≤ 2000
@@ -39,7 +39,7 @@ pub record SegmentOk (h : Head) (s : Segment) (f : ℕ) : Type 0 where
   pub fast : f ≤ 200000
   pub reach : f * h .step ≤ 3600 * s .metres
 
--- a row whose figures are those of a sound study
+-- what a step asks of a row: less than that it is sound
 pub record RowOk (s : Segment) (f : ℕ) (r : Row) : Type 0 where
   pub count : r .count ≤ 1000000000000
   pub queue : r .queue ≤ 1000000000000
@@ -72,6 +72,7 @@ pub record Ready (words : List ℕ) (speeds : List Float) (ds : List ℕ) (at fr
   pub row : (i : ℕ) → i < n → RowOk (segmentIn (netOf words) i) (entryIn (netOf words) (segmentIn (netOf words) i .curve) 0) (rowAt words speeds at from i)
   pub arrival : (i : ℕ) → i < n → getD ds i 0 ≤ 1000000
 
+-- totals that a step can add to; a sound case's are lower
 pub record TotalsOk (words : List ℕ) (e : ℕ) : Type 0 where
   pub room : e + 8 ≤ length words
   pub steps : getD words e 0 ≤ 20000
@@ -109,12 +110,12 @@ pub record FreshOk (words : List ℕ) (a : ℕ) (v : Float) (d i n pass : ℕ) :
   pub passed : pass ≤ 1000000000000
   pub row : RowOk (segmentIn (netOf words) i) (entryIn (netOf words) (segmentIn (netOf words) i .curve) 0) (rowIn (drop a words) v)
 
--- what a step of the rows leaves, and what it counts out
+-- what a step of the rows leaves, and what it counts out: at most 40 exit parts and what leaves after the last segment
 pub record Stepped (words : List ℕ) (speeds : List Float) (ds : List ℕ) (at from n t : ℕ) (words' : List ℕ) (speeds' : List Float) (left : ℕ) : Type 0 where
   pub makes : words' ≡ stepWords words speeds at from n t ds
   pub paces : speeds' ≡ stepSpeeds words speeds at from n t ds
   pub leaves : left ≡ leaving words speeds at from n
   pub bound : left ≤ 41 * 1000000000000
 
-abbrev pub heldAt : List ℕ → ℕ → ℕ → ℕ
-heldAt words at i = getD words (at + 16 * i) 0 + getD words (at + 16 * i + 1) 0
+abbrev pub vehiclesAt : List ℕ → ℕ → ℕ → ℕ
+vehiclesAt words at i = getD words (at + 16 * i) 0 + getD words (at + 16 * i + 1) 0

@@ -1,4 +1,4 @@
--- A sound case, and the rows of the table that judge a step's arrivals: 12, 13, 15 and 16.
+-- A sound case, and the rows of the table that judge a step on it: 12, 13, 15 and 16.
 use Prim.Native.Nat.{ℕ, _+_, _*_}
 use mathlib.Core.Bool.{Bool, true, cond, not, _&&_, _||_}
 use mathlib.Core.List.{List, [], _∷_}
@@ -13,7 +13,7 @@ use Rattle.network.specs.declared.Segment.{Segment}
 use Rattle.network.specs.Words.{headIn, entryIn, segmentIn, keptNumber}
 use Rattle.model.specs.declared.Row.{Row}
 use Rattle.model.specs.Case.{Case, openKind, fixedKind, alineaKind, rowOf}
-use Rattle.model.specs.Step.{heldIn, freeSpeed, merges}
+use Rattle.model.specs.Step.{vehiclesIn, freeSpeed, merges}
 use Rattle.model.specs.Words.{netOf, rowsIn, caseIn, stepCaseWords, stepCaseSpeeds}
 
 -- every mv figure and each case's mv in all ≤ 10¹², time ≤ 10¹⁸, steps ≤ 20,000
@@ -36,12 +36,12 @@ signBad r = cond (eqb (r .limit) 0) (ltb 0 (r .compliance)) (outside 20 (r .limi
 unfoldable pub hasAlinea : Row → Bool
 hasAlinea r = anyOf (ltb 0 (r .target) ∷ ltb 0 (r .gain) ∷ ltb 0 (r .least) ∷ ltb 0 (r .interval) ∷ [])
 
--- open: R is Q
+-- open: R is Q, and the figures that only ALINEA has are 0
 unfoldable pub openBad : Segment → Row → Bool
 unfolding hasAlinea
 openBad s r = hasAlinea r || not (eqb (r .rate) (s .most))
 
--- fixed at 0..Q
+-- fixed at 0..Q, and the figures that only ALINEA has are 0
 unfoldable pub fixedBad : Segment → Row → Bool
 unfolding hasAlinea
 fixedBad s r = hasAlinea r || ltb (s .most) (r .rate)
@@ -57,7 +57,7 @@ alineaBad s r =
     ∷ outside (r .least) (r .rate) (s .most)
     ∷ [])
 
--- only an origin past segment 1 is metered: m says whether segment i is one
+-- only an origin past segment 1 is metered: m says whether segment i is one. Every code is one that the arrangement names
 unfoldable pub settingBad : Bool → Segment → Row → Bool
 unfolding openBad fixedBad alineaBad
 settingBad m s r =
@@ -69,6 +69,7 @@ settingBad m s r =
 unfoldable pub speedBad : ℕ → Float → Bool
 speedBad f v = not (le (real 1000) v && le v (real f))
 
+-- one segment's part of a case
 unfoldable pub rowBad : Bool → Segment → ℕ → Row → Bool
 unfolding signBad settingBad speedBad
 rowBad m s f r =
@@ -105,13 +106,13 @@ module _ (h : Head) (entry : ℕ → ℕ → ℕ) (segment : ℕ → Segment) wh
   unfoldable pub caseNumber : Case → ℕ
   unfolding rowNumber totalsBad
   caseNumber c =
-      first (firstOf (rowNumber (c .rows)) (h .size)) (row (totalsBad (sumOf (heldIn (c .rows)) (h .size)) (c .steps) (c .arrivals) (c .exits) (c .time)) 12 0)
+      first (firstOf (rowNumber (c .rows)) (h .size)) (row (totalsBad (sumOf (vehiclesIn (c .rows)) (h .size)) (c .steps) (c .arrivals) (c .exits) (c .time)) 12 0)
 
   -- 15 arrival > 1,000,000 or not 0 without origin
   unfoldable pub arrivalNumber : List ℕ → ℕ → ℕ
   arrivalNumber ds i = row (ltb 1000000 (getD ds i 0) || (eqb (segment i .origin) 0 && ltb 0 (getD ds i 0))) 15 0
 
-  -- 13 list length; 15; 16 20,000 steps on the line, of which there are this many
+  -- 13 list length; 15; 16 20,000 steps on the line, of which there are this many. The run count is the study's
   unfoldable pub stepNumber : ℕ → List ℕ → ℕ
   unfolding arrivalNumber
   stepNumber steps ds =
@@ -154,6 +155,7 @@ singleNumber words speeds ds =
     (row (ltb (length speeds) (singleSize words)) 12
     (first (caseNumberIn words speeds 2560 0 (singleSize words)) (stepNumberIn net (singleCase words speeds .steps) ds))))
 
+-- a refused call changes no lent array
 unfoldable pub singleWords : List ℕ → List Float → List ℕ → List ℕ
 singleWords words speeds ds = ifAccepted (singleNumber words speeds ds) (stepCaseWords words speeds 2560 0 (singleSize words) ds) words
 

@@ -22,6 +22,7 @@ curveSpeed e n g =
     (real (e 200))
     (real (e (n / g)) ⊖ (real ((e (n / g) - e (n / g + 1)) * (n % g)) ⊘ real g))
 
+-- the lesser of two speeds
 abbrev pub lesser : Float → Float → Float
 lesser x y = cond (lt x y) x y
 

@@ -19,7 +19,7 @@ StepsTheCase =
     → caseIn (stepCaseWords words speeds at from n ds) (stepCaseSpeeds words speeds at from n ds) at from n
     ≡ stepCase (networkIn (netOf words)) (caseIn words speeds at from n) ds
 
--- vehicles in segments and queues after the step, with those that have left, are those before it, with those that arrived
+-- vehicles in segments and queues and those that have left, after the step, are the same before it and those that arrived
 abbrev pub Balances : Type 0
 Balances =
     (words : List ℕ) (speeds : List Float) (ds : List ℕ) (at from n : ℕ) → Ready words speeds ds at from n

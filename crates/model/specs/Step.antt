@@ -1,4 +1,5 @@
--- One step of a case. Every right side uses values from before the step, save the rates, releases and flows that this step itself makes.
+-- One step of a case. Every right side uses values from before the step, save the rates, releases and flows that this step itself
+-- makes. Differences are of natural numbers: in a sound case none would be below 0 (release ≤ w + d, exit part ≤ outflow ≤ N).
 use Prim.Native.Nat.{ℕ, zero, suc, _+_, _-_, _*_, _%_}
 use mathlib.Core.Bool.{Bool, cond, _&&_}
 use mathlib.Core.List.{List}
@@ -29,7 +30,7 @@ density s r = real (r .count) ⊘ real (area s)
 unfoldable pub signOf : Row → Sign
 signOf r = cond (eqb (r .limit) 0) Dark (Shown (real (r .limit * (500 + r .compliance))))
 
--- the desired speed on a curve with the entries e
+-- the desired speed V on a curve with the entries e, under the row's sign
 unfoldable pub desiredSpeed : (ℕ → ℕ) → Segment → Row → Float
 unfolding signOf
 desiredSpeed e s r = signed (curveSpeed e (r .count) (area s)) (signOf r)
@@ -46,7 +47,7 @@ rateNow s r t =
     (alineaRate (r .rate) (r .gain) (r .target) (r .least) (s .most) (area s) (r .count))
     (rateOf s r)
 
--- 2. the release
+-- 2. release = least of w + d; R; the jam bound
 unfoldable pub releaseNow : Segment → Row → ℕ → ℕ → ℕ
 unfolding rateNow
 releaseNow s r t d = releaseOf (r .queue + d) (rateNow s r t) (jamBound (s .most) (s .jam) (s .critical) (area s) (r .count))
@@ -93,8 +94,8 @@ upstream rows zero = rowOf rows 0 .speed
 upstream rows (suc i) = rowOf rows i .speed
 
 -- mv in a segment and its queue
-abbrev pub heldIn : List Row → ℕ → ℕ
-heldIn rows i = rowOf rows i .count + rowOf rows i .queue
+abbrev pub vehiclesIn : List Row → ℕ → ℕ
+vehiclesIn rows i = rowOf rows i .count + rowOf rows i .queue
 
 -- ---- all segments, on a network with the head h, the entries entry k j and the segments segment i
 
@@ -103,7 +104,7 @@ module _ (h : Head) (entry : ℕ → ℕ → ℕ) (segment : ℕ → Segment) wh
   abbrev pub freeSpeed : ℕ → ℕ
   freeSpeed i = entry (segment i .curve) 0
 
-  -- what the segment before passes on
+  -- what the segment before passes on; past the last segment, what leaves there
   unfoldable pub inflow : List Row → ℕ → ℕ
   unfolding through
   inflow rows zero = 0
@@ -135,11 +136,13 @@ module _ (h : Head) (entry : ℕ → ℕ → ℕ) (segment : ℕ → Segment) wh
   unfolding made inflow upstream downstream desiredSpeed
   stepRow rows t ds i = made h (segment i) (freeSpeed i) (rowOf rows i) t (getD ds i 0) (merges i) (around rows i)
 
+  -- the rows after the step
   unfoldable pub stepRows : List Row → ℕ → List ℕ → List Row
   unfolding stepRow table
   stepRows rows t ds = table (stepRow rows t ds) (h .size)
 
   -- ---- totals
+  -- the exit part of segment i
   abbrev pub exitNow : List Row → ℕ → ℕ
   exitNow rows i = exitPart (outflowNow h (segment i) (rowOf rows i)) (segment i .exit)
 
@@ -156,7 +159,7 @@ module _ (h : Head) (entry : ℕ → ℕ → ℕ) (segment : ℕ → Segment) wh
         steps = c .steps + 1;
         arrivals = c .arrivals + sumOf (λ i. getD ds i 0) (h .size);
         exits = c .exits + exitsNow (c .rows);
-        time = c .time + h .step * sumOf (heldIn (c .rows)) (h .size);
+        time = c .time + h .step * sumOf (vehiclesIn (c .rows)) (h .size);
       }
 
 -- one step of a case on a network
@@ -165,4 +168,4 @@ stepCase w = stepOn (w .head) (entryOf w) (segmentOf w)
 
 -- mv in segments and queues
 abbrev pub totalOf : Network → Case → ℕ
-totalOf w c = sumOf (heldIn (c .rows)) (w .head .size)
+totalOf w c = sumOf (vehiclesIn (c .rows)) (w .head .size)

@@ -9,7 +9,7 @@ use Rattle.laws.specs.Sums.{sumOf}
 use Rattle.network.specs.Words.{headIn, entryIn, segmentIn}
 use Rattle.model.specs.declared.Row.{Row}
 use Rattle.model.specs.Case.{Case, rowOf}
-use Rattle.model.specs.Step.{heldIn, stepRow, exitsNow}
+use Rattle.model.specs.Step.{vehiclesIn, stepRow, exitsNow}
 
 -- the words of the network
 abbrev pub netOf : List ℕ → List ℕ
@@ -107,13 +107,15 @@ putTotals words e ys = take e words ++ (ys ++ drop 8 (drop e words))
 abbrev pub leaving : List ℕ → List Float → ℕ → ℕ → ℕ → ℕ
 leaving words speeds at from n = let net = netOf words in exitsNow (headIn net) (entryIn net) (segmentIn net) (rowsIn words speeds at from n)
 
+-- the words after a step of the case: its rows' figures and its totals are new, all else stays
 abbrev pub stepCaseWords : List ℕ → List Float → ℕ → ℕ → ℕ → List ℕ → List ℕ
 stepCaseWords words speeds at from n ds =
     putTotals (stepWords words speeds at from n (getD words (at + 16 * n) 0) ds) (at + 16 * n)
     (totalsWords (part (at + 16 * n) 8 words)
     (sumOf (λ i. getD ds i 0) n)
     (leaving words speeds at from n)
-    (getD words 0 0 * sumOf (heldIn (rowsIn words speeds at from n)) n))
+    (getD words 0 0 * sumOf (vehiclesIn (rowsIn words speeds at from n)) n))
 
+-- the speeds after it: the case's own are new, all else stays
 abbrev pub stepCaseSpeeds : List ℕ → List Float → ℕ → ℕ → ℕ → List ℕ → List Float
 stepCaseSpeeds words speeds at from n ds = stepSpeeds words speeds at from n (getD words (at + 16 * n) 0) ds

@@ -3,7 +3,7 @@ ghost use mathlib.Core.Path.{_≡_};
 ghost use Prim.Native.Nat.{_<_, _≤_, min, max};
 ghost use Rattle.model.specs.Flow.{jamBound, alineaRate, releaseOf, outflowOf, exitPart};
 
-// The most that a jammed segment lets in.
+// The most that a segment with n mv lets in from its origin: 0 from the jam density on.
 pub(crate) fn jam_bound(most: u64, jam: u64, critical: u64, g: u64, n: u64) -> u64
     requires { ⌜ (most ≤ 300000) × (jam ≤ 200) × (critical < jam) × (0 < g) × (g ≤ 16000) ⌝ }
     ensures { λ r. ⌜ r ≡ jamBound most jam critical g n ⌝ }
@@ -71,6 +71,7 @@ pub(crate) fn outflow(n: u64, s: u64, t: u64, l: u64) -> u64
     n * s * t / (3600 * l)
 }
 
+// What of an outflow leaves by the off-ramp.
 pub(crate) fn exit_part(outflow: u64, share: u64) -> u64
     requires { ⌜ (outflow ≤ 1000000000000) × (share ≤ 1000) ⌝ }
     ensures { λ r. ⌜ r ≡ exitPart outflow share ⌝ }

@@ -15,8 +15,8 @@ ghost use Rattle.model.specs.Ready.{CaseAt, Ready, TotalsOk};
 ghost use Rattle.model.specs.Sound.{caseNumberIn, singleNumber, singleWords, singleSpeeds};
 
 // A segment's part of a case: N and queue w in mv; the sign's limit in km/h, 0 where it is dark, and compliance in thousandths with
-// 500 added; the setting's kind (0 open, 1 fixed, 2 ALINEA), rate R, target, gain, least and interval z; last outflow and last
-// release; speed v in m/h.
+// 500 added, 0 where it is dark; the setting's kind (0 open, 1 fixed, 2 ALINEA), rate R in mv a step, target in veh/km/lane, gain
+// and least in mv, interval z in steps; last outflow, exit part included, and last release in mv; speed v in m/h.
 pub struct Row {
     pub count: u64,
     pub queue: u64,
@@ -33,8 +33,8 @@ pub struct Row {
     pub speed: f64,
 }
 
-// What a step of one segment goes by, its own row aside: what the segment before passes on and its speed u, the density ρ' of the
-// next one, and the desired speed V.
+// What a step of one segment goes by beside its row: what the segment before passes on and its speed u, the density ρ' of the next
+// one, and the desired speed V.
 pub struct Around {
     pub passed: u64,
     pub before: f64,
@@ -78,7 +78,7 @@ pub fn step(
     let t = words[e];
     let duration = words[0];
     let came = totals::sum_arrivals(arrivals, n);
-    let held = totals::held_in(words, at, n);
+    let held = totals::vehicles_in(words, at, n);
     let left = rows::step_rows(words, speeds, arrivals, at, from, n, t);
     totals::add_totals(&mut words[e..f], came, left, duration * held);
 }

@@ -31,7 +31,7 @@ fn sign_of(r: Row) -> Sign
     Sign::Shown(speed::whole(r.limit * (500 + r.compliance)))
 }
 
-// G.
+// G, in lane-metres.
 fn area_of(s: Segment) -> u64
     requires { ⌜ AreaOk s ⌝ }
     ensures { λ r. ⌜ (r ≡ area s) × (0 < r) × (r ≤ 16000) ⌝ }
@@ -136,7 +136,7 @@ fn after_of(net: &[u64], rest: &[u64], i: usize, n: usize, s: Segment, count: u6
     speed::whole(s.critical)
 }
 
-// V.
+// The desired speed V, m/h.
 fn want_of(net: &[u64], s: Segment, f: u64, r: Row, g: u64) -> f64
     requires { ⌜ (g ≡ area s) × (0 < g) × (g ≤ 16000) × (s .curve < 8) ⌝ }
     requires { ⌜ CurveWithin (entryIn (now net) (s .curve)) ⌝ }
@@ -147,7 +147,7 @@ fn want_of(net: &[u64], s: Segment, f: u64, r: Row, g: u64) -> f64
     speed::desired(v, sign_of(r))
 }
 
-// Whether something merges at an origin past segment 1, which alone may be metered; i is counted from 0.
+// Whether segment i, counted from 0, is an origin past segment 1: a release merges there, and it may be metered.
 pub(crate) fn merges_at(origin: u64, i: usize) -> bool
     ensures { λ r. ⌜ r ≡ (eqb origin 1 && ltb 0 i) ⌝ }
 {

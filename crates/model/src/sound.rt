@@ -78,6 +78,7 @@ fn speed_bad(f: u64, v: f64) -> bool
     !((speed::whole(1000) <= v) & (v <= speed::whole(f)))
 }
 
+// One segment's part of a case.
 fn row_bad(m: bool, s: Segment, f: u64, r: Row) -> bool
     requires { ⌜ f ≤ 200000 ⌝ }
     ensures { λ x. ⌜ x ≡ rowBad m s f r ⌝ }
@@ -109,6 +110,7 @@ fn row_number(words: &[u64], speeds: &[f64], at: usize, from: usize, n: usize, i
     0
 }
 
+// 12, of the first row that is not sound.
 fn rows_number(words: &[u64], speeds: &[f64], at: usize, from: usize, n: usize) -> u64
     requires { ⌜ CaseAt (now words) (now speeds) at from n ⌝ }
     ensures { λ r. ⌜ r ≡ firstOf (rowNumberIn (now (words .entry)) (now (speeds .entry)) at from n) n ⌝ }
@@ -144,7 +146,7 @@ pub(crate) fn case_number(words: &[u64], speeds: &[f64], at: usize, from: usize,
     if in_rows != 0 {
         return in_rows;
     }
-    let held = totals::held_in(words, at, n);
+    let held = totals::vehicles_in(words, at, n);
     let e = at + 16 * n;
     if totals_bad(held, words[e], words[e + 1], words[e + 2], words[e + 3]) {
         return 12;

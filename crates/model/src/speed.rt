@@ -19,7 +19,7 @@ pub(crate) fn whole(n: u64) -> f64
     (n as i64) as f64
 }
 
-// A.
+// A: relaxation to the desired speed, m/h.
 fn relax(h: Head, want: f64, v: f64) -> f64
     requires { ⌜ HeadWithin h ⌝ }
     ensures { λ r. ⌜ r ≡ relaxation h want v ⌝ }
@@ -27,7 +27,7 @@ fn relax(h: Head, want: f64, v: f64) -> f64
     (whole(h.step) / whole(h.tau)) * (want - v)
 }
 
-// B.
+// B: convection from the segment before, m/h.
 fn convect(h: Head, s: Segment, o: Old) -> f64
     requires { ⌜ HeadWithin h ⌝ }
     requires { ⌜ s .metres ≤ 2000 ⌝ }
@@ -36,7 +36,7 @@ fn convect(h: Head, s: Segment, o: Old) -> f64
     ((whole(h.step) / whole(3600 * s.metres)) * o.speed) * (o.before - o.speed)
 }
 
-// D.
+// D: anticipation of the density ahead, m/h.
 fn anticipate(h: Head, s: Segment, o: Old) -> f64
     requires { ⌜ HeadWithin h ⌝ }
     requires { ⌜ s .metres ≤ 2000 ⌝ }
@@ -46,7 +46,7 @@ fn anticipate(h: Head, s: Segment, o: Old) -> f64
         / (o.density + whole(h.kappa))
 }
 
-// E.
+// E: merging of a release, m/h.
 fn merge(h: Head, s: Segment, o: Old, release: u64) -> f64
     requires { ⌜ HeadWithin h ⌝ }
     requires { ⌜ (release ≤ 300000) × (s .metres ≤ 2000) × (s .lanes ≤ 8) ⌝ }

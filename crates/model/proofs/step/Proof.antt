@@ -5,25 +5,25 @@ use lib.ListN.{getD}
 use borrow.Author.Needs.{needs}
 use Rattle.laws.proofs.Lists.{span}
 use Rattle.model.proofs.Turns.{size-high}
-use Rattle.model.proofs.CaseLaws.{held-high, spent-high, totals-ok, case-made}
+use Rattle.model.proofs.CaseLaws.{vehicles-high, spent-high, totals-ok, case-made}
 use Rattle.model.proofs.step.Statement.{statement}
 use Rattle.model.proofs.step.Tie as tie
 
 -- ---- what holds once the rows are stepped
-abbrev held : tie.After-step-rows → tie.After-held-in
+abbrev held : tie.After-step-rows → tie.After-vehicles-in
 held c = c .before .before .before
 
 abbrev start : tie.After-step-rows → tie.Start
 start c = held c .before .before .before .before .before .before .before .before
 
-spent : (c : tie.After-step-rows) → getD (start c .args .words .now) 0 0 * held c .held-in .result ≤ 4800000000000000
-spent c = spent-high (start c .pre .0) _ (omega (arith, held c .held-in .ensures .1, size-high (start c .pre .0)))
+spent : (c : tie.After-step-rows) → getD (start c .args .words .now) 0 0 * held c .vehicles-in .result ≤ 4800000000000000
+spent c = spent-high (start c .pre .0) _ (omega (arith, held c .vehicles-in .ensures .1, size-high (start c .pre .0)))
 
 -- ---- the needs
-held-in-requires : tie.Need-held-in-requires
-held-in-requires c κs =
+vehicles-in-requires : tie.Need-vehicles-in-requires
+vehicles-in-requires c κs =
     let s = c .before .before .before .before .before .before .before in
-    ((size-high (s .pre .0), s .pre .0 .room), held-high (s .pre .0))
+    ((size-high (s .pre .0), s .pre .0 .room), vehicles-high (s .pre .0))
 
 mul-add-totals-2 : tie.Need-mul-add-totals-2
 mul-add-totals-2 c = omega (arith, spent (c .before .before .before .before .before))
@@ -42,7 +42,7 @@ returns c =
     let r = c .before .before .before .before .before .before .before .before in
     let s = start r in
     let made = r .step-rows .ensures in (
-      case-made (s .pre .0) (s .pre .1) (made .makes) (span (s .args .at + 16 * s .args .n) 8) (held r .before .before .sum-arrivals .ensures .0) (made .leaves) (held r .held-in .ensures .0)
+      case-made (s .pre .0) (s .pre .1) (made .makes) (span (s .args .at + 16 * s .args .n) 8) (held r .before .before .sum-arrivals .ensures .0) (made .leaves) (held r .vehicles-in .ensures .0)
           (c .before .before .add-totals .ensures),
       made .paces,
     )
@@ -58,7 +58,7 @@ step-spec =
     (λ c. search needs)
     (λ c. search needs)
     (λ c κs. search needs)
-    held-in-requires
+    vehicles-in-requires
     (λ c κs. search needs)
     (λ c. search needs)
     (λ c. search needs)

@@ -4,12 +4,12 @@ use mathlib.Core.Path.{refl}
 use native.Mathlib.Omega.{arith}
 use borrow.Author.Needs.{needs}
 use Rattle.laws.proofs.Sums.{Summed, sum-none, sum-more, sum-all}
-use Rattle.model.specs.Ready.{heldAt}
-use Rattle.model.proofs.totals.held_in.Statement.{statement}
-use Rattle.model.proofs.totals.held_in.Tie as tie
+use Rattle.model.specs.Ready.{vehiclesAt}
+use Rattle.model.proofs.totals.vehicles_in.Statement.{statement}
+use Rattle.model.proofs.totals.vehicles_in.Tie as tie
 
 abbrev Inv-loop : tie.InvT-loop
-Inv-loop words at n sum₀ i₀ sum i = (i ≤ n) × Summed (heldAt words at) 2000000000000 i sum
+Inv-loop words at n sum₀ i₀ sum i = (i ≤ n) × Summed (vehiclesAt words at) 2000000000000 i sum
 
 abbrev μ-loop : tie.MeasureT-loop
 μ-loop words at n sum₀ i₀ sum i = n - i
@@ -18,7 +18,7 @@ loop-holds : tie.Need-loop-holds Inv-loop μ-loop
 loop-holds c = (omega arith, sum-none _ _)
 
 held : (c : tie.After-shared-slice-known2 Inv-loop μ-loop)
-    → (let l = c .before .before .before in heldAt (l .before .args .words .now) (l .before .args .at) (l .loop .i) ≤ 2000000000000)
+    → (let l = c .before .before .before in vehiclesAt (l .before .args .words .now) (l .before .args .at) (l .loop .i) ≤ 2000000000000)
 held c = c .before .before .before .before .pre .1 _ (c .before .before .loop-test .taken)
 
 loop-again : tie.Need-loop-again Inv-loop μ-loop
@@ -31,8 +31,8 @@ returns c =
     let l = c .before .loop in
     (sum-all _ _ _ _ _ (l .inv .1) (l .inv .0) (c .loop-test .left), omega arith)
 
-pub held-in-spec : {M : Type 1} → statement M
-held-in-spec =
+pub vehicles-in-spec : {M : Type 1} → statement M
+vehicles-in-spec =
     tie.close
     (tie.spec
     Inv-loop

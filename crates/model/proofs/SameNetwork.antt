@@ -19,7 +19,7 @@ use Rattle.model.specs.declared.Row.{Row}
 use Rattle.model.specs.Case.{Case, rowOf}
 use Rattle.model.specs.Flow.{exitPart}
 use Rattle.model.specs.Speed.{area, curveSpeed, signed}
-use Rattle.model.specs.Step.{signOf, desiredSpeed, outflowNow, through, made, heldIn, upstream, inflow, downstream, freeSpeed, merges, stepRow, stepRows, exitNow, exitsNow, stepOn, stepCase}
+use Rattle.model.specs.Step.{signOf, desiredSpeed, outflowNow, through, made, vehiclesIn, upstream, inflow, downstream, freeSpeed, merges, stepRow, stepRows, exitNow, exitsNow, stepOn, stepCase}
 
 -- the speed of a curve, from the entries up to 200
 curve-speed-same : (e f : ℕ → ℕ) (n g : ℕ) → ((j : ℕ) → j < 201 → e j ≡ f j) → curveSpeed e n g ≡ curveSpeed f n g
@@ -75,7 +75,7 @@ module _ (h : Head) (e f : ℕ → ℕ → ℕ) (s u : ℕ → Segment)
         steps = c .steps + 1;
         arrivals = c .arrivals + sumOf (λ i. getD ds i 0) (h .size);
         exits = c .exits + exits-same (c .rows) j;
-        time = c .time + h .step * sumOf (heldIn (c .rows)) (h .size);
+        time = c .time + h .step * sumOf (vehiclesIn (c .rows)) (h .size);
       }
 
 -- a step on the network that is given by head, entries and segments

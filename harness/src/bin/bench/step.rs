@@ -5,7 +5,7 @@
 //! 19,999, so that ALINEA's intervals divide them as on a line.
 
 use crate::busy;
-use crate::timing::{heading, row};
+use crate::timing::{heading, row, row_less};
 use harness::engine;
 use harness::random::Random;
 use harness::single::{row_word, words_for};
@@ -22,6 +22,7 @@ pub fn table() {
     println!("one step; engine: case_step, which reads, judges, steps and writes the arrays");
     println!("  step    oracle: the bare step on typed data, nothing read, judged or written");
     println!("  single  oracle: reads, judges, steps and writes the same arrays");
+    println!("  alone   engine: case_step less the same call refused by 16, which only reads and judges; oracle: the bare step");
     heading("case_step");
     for (segments, curves) in [(1, 1), (12, 2), (40, 8)] {
         let network = busy::road(segments, curves);
@@ -33,6 +34,10 @@ pub fn table() {
         let mut single = InArrays::new(&network, oracle_single);
         row(&name("single"), || engine.step(), || single.step());
         engine.expect_busy();
+        let mut judged = InArrays::new(&network, engine::step);
+        let mut typed = Typed::new(&network);
+        let steps = || engine.step();
+        row_less(&name("alone"), steps, || judged.refused(), || typed.step());
     }
 }
 
@@ -104,6 +109,17 @@ impl InArrays<'_> {
         self.turn += 1;
         let number = (self.step)(&mut self.words, &mut self.speeds, black_box(arrivals));
         assert_eq!(number, 0, "an accepted step");
+        number
+    }
+
+    /// The same call on a case that has taken all its steps: read and judged, then refused.
+    fn refused(&mut self) -> u64 {
+        let totals = &mut self.words[row_word(self.network.segments.len(), 0)..];
+        totals[STEPS] = LINE_STEPS as u64;
+        let arrivals = &self.arrivals[self.turn % self.arrivals.len()];
+        self.turn += 1;
+        let number = (self.step)(&mut self.words, &mut self.speeds, black_box(arrivals));
+        assert_eq!(number, 16, "a refused step");
         number
     }
 

@@ -30,6 +30,25 @@ pub fn row(name: &str, mut engine: impl FnMut() -> u64, mut oracle: impl FnMut()
     println!("{name:<24} {engine:>10.1} {oracle:>10.1} {ratio:>8.2}");
 }
 
+/// One row: the time of `whole` less that of `less`, beside the oracle's.
+pub fn row_less(
+    name: &str,
+    mut whole: impl FnMut() -> u64,
+    mut less: impl FnMut() -> u64,
+    mut oracle: impl FnMut() -> u64,
+) {
+    let calls = ROUND_NANOSECONDS / (round(&mut oracle, 1000) as u64).max(1) + 1;
+    let mut rounds = [Vec::new(), Vec::new(), Vec::new()];
+    for _ in 0..ROUNDS {
+        rounds[0].push(round(&mut whole, calls));
+        rounds[1].push(round(&mut less, calls));
+        rounds[2].push(round(&mut oracle, calls));
+    }
+    let [whole, less, oracle] = rounds.map(median);
+    let (engine, ratio) = (whole - less, (whole - less) / oracle);
+    println!("{name:<24} {engine:>10.1} {oracle:>10.1} {ratio:>8.2}");
+}
+
 /// Nanoseconds of one call, over a round of calls.
 fn round(call: &mut impl FnMut() -> u64, calls: u64) -> f64 {
     let start = Instant::now();

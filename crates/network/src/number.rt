@@ -70,10 +70,20 @@ pub(crate) fn outside(least: u64, x: u64, most: u64) -> bool
     (x < least) | (most < x)
 }
 
-// Row 6, of five entries of a curve, b to f, each against the one before it. Curves are judged five entries at a time, so that the
+// Row 6, of eight entries of a curve, b to i, each against the one before it. Curves are judged eight entries at a time, so that the
 // loop costs little beside its tests.
-pub(crate) fn five_rising(a: u64, b: u64, c: u64, d: u64, e: u64, f: u64) -> u64
-    ensures { λ r. ⌜ r ≡ row (ltb a b) 6 (row (ltb b c) 6 (row (ltb c d) 6 (row (ltb d e) 6 (row (ltb e f) 6 0)))) ⌝ }
+pub(crate) fn eight_rising(
+    a: u64,
+    b: u64,
+    c: u64,
+    d: u64,
+    e: u64,
+    f: u64,
+    g: u64,
+    h: u64,
+    i: u64,
+) -> u64
+    ensures { λ r. ⌜ r ≡ row (ltb a b) 6 (row (ltb b c) 6 (row (ltb c d) 6 (row (ltb d e) 6 (row (ltb e f) 6 (row (ltb f g) 6 (row (ltb g h) 6 (row (ltb h i) 6 0))))))) ⌝ }
 {
     if a < b {
         return 6;
@@ -88,6 +98,15 @@ pub(crate) fn five_rising(a: u64, b: u64, c: u64, d: u64, e: u64, f: u64) -> u64
         return 6;
     }
     if e < f {
+        return 6;
+    }
+    if f < g {
+        return 6;
+    }
+    if g < h {
+        return 6;
+    }
+    if h < i {
         return 6;
     }
     0

@@ -51,18 +51,21 @@ fn entry_in(kept: &[u64], k: usize, j: usize) -> u64
     kept[16 + 201 * k + j]
 }
 
-// Row 6, of the five entries after entry j.
-fn five_row(kept: &[u64], k: usize, j: usize) -> u64
-    requires { ⌜ (2560 ≤ length (now kept)) × (k < 8) × (j ≤ 195) ⌝ }
-    ensures { λ r. ⌜ r ≡ firstOf (λ i. rising (entryIn (now (kept .entry)) k) (j + i)) 5 ⌝ }
+// Row 6, of the eight entries after entry j.
+fn eight_row(kept: &[u64], k: usize, j: usize) -> u64
+    requires { ⌜ (2560 ≤ length (now kept)) × (k < 8) × (j ≤ 192) ⌝ }
+    ensures { λ r. ⌜ r ≡ firstOf (λ i. rising (entryIn (now (kept .entry)) k) (j + i)) 8 ⌝ }
 {
-    number::five_rising(
+    number::eight_rising(
         entry_in(kept, k, j),
         entry_in(kept, k, j + 1),
         entry_in(kept, k, j + 2),
         entry_in(kept, k, j + 3),
         entry_in(kept, k, j + 4),
         entry_in(kept, k, j + 5),
+        entry_in(kept, k, j + 6),
+        entry_in(kept, k, j + 7),
+        entry_in(kept, k, j + 8),
     )
 }
 
@@ -75,8 +78,8 @@ fn curve_row(kept: &[u64], k: usize) -> u64
         return 6;
     }
     let mut m = 0;
-    while m < 40 {
-        let r = five_row(kept, k, 5 * m);
+    while m < 25 {
+        let r = eight_row(kept, k, 8 * m);
         if r != 0 {
             return r;
         }

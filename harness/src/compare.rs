@@ -1,10 +1,15 @@
 //! The tests. Each makes one input after another and asks both sides.
 
+mod case_step;
 mod changed;
 mod curves;
 mod damaged;
 mod lengths;
+mod lines;
 mod random_bytes;
+mod refused;
+mod steps;
+mod tallies;
 mod valid;
 mod write;
 
@@ -22,48 +27,80 @@ pub struct Difference {
 
 pub struct Test {
     pub name: &'static str,
-    /// Inputs for each hundred files asked for. The tests of whole files add
-    /// up to a hundred.
-    pub share: u64,
+    pub inputs: Inputs,
     /// Makes and tries the input of that index (from 0).
     pub one: fn(&mut Random, u64) -> Result<(), Difference>,
+}
+
+/// How many inputs a test tries.
+#[derive(Clone, Copy)]
+pub enum Inputs {
+    /// So many for each hundred files asked for. The tests of whole files
+    /// add up to a hundred.
+    Files(u64),
+    /// So many for each hundred steps asked for.
+    Steps(u64),
+    /// One for each line asked for.
+    Lines,
+    /// One.
+    Once,
 }
 
 pub const TESTS: &[Test] = &[
     Test {
         name: "valid files",
-        share: 20,
+        inputs: Inputs::Files(20),
         one: valid::one,
     },
     Test {
         name: "damaged files",
-        share: 30,
+        inputs: Inputs::Files(30),
         one: damaged::one,
     },
     Test {
         name: "lengths",
-        share: 15,
+        inputs: Inputs::Files(15),
         one: lengths::one,
     },
     Test {
         name: "random bytes",
-        share: 15,
+        inputs: Inputs::Files(15),
         one: random_bytes::one,
     },
     Test {
         name: "changed bytes",
-        share: 20,
+        inputs: Inputs::Files(20),
         one: changed::one,
     },
     Test {
         name: "curves",
-        share: 5,
+        inputs: Inputs::Files(5),
         one: curves::one,
     },
     Test {
         name: "write",
-        share: 10,
+        inputs: Inputs::Files(10),
         one: write::one,
+    },
+    Test {
+        name: "random steps",
+        inputs: Inputs::Steps(100),
+        one: steps::one,
+    },
+    Test {
+        name: "lines of 2000 steps",
+        inputs: Inputs::Lines,
+        one: lines::one,
+    },
+    Test {
+        name: "refused steps",
+        inputs: Inputs::Steps(50),
+        one: refused::one,
+    },
+    Test {
+        name: "tallies",
+        inputs: Inputs::Once,
+        one: tallies::one,
     },
 ];
 

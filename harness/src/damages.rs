@@ -1,15 +1,21 @@
-//! Damages to a valid file or to a stored network, each with the number that
-//! it must bring.
+//! Damages to a valid file, to a stored network or to a sound case, each with
+//! the number that it must bring.
 
 mod curves;
+mod figures;
 mod head;
 mod length;
+mod ramps;
 mod records;
+mod settings;
+mod signs;
+mod speeds;
 mod stored;
 
 use crate::draft::Draft;
 use crate::networks::Shape;
 use crate::random::Random;
+use crate::single::Single;
 use crate::words::Stored;
 use oracle::file::Network;
 
@@ -25,7 +31,8 @@ pub enum Part {
     LastRecord,
 }
 
-/// A damage to `D`, a file or the words of a stored network.
+/// A damage to `D`: a file, the words of a stored network, or the arrays of a
+/// case.
 pub struct Damage<D: 'static> {
     pub name: &'static str,
     /// The number of the row that then applies.
@@ -69,6 +76,26 @@ pub const FILE: [&[Damage<Draft>]; 4] = [
 
 /// Every damage to the words of a stored network.
 pub const STORED: [&[Damage<Stored>]; 1] = [stored::DAMAGES];
+
+/// Every damage to a case in arrays.
+pub const CASE: [&[Damage<Single>]; 4] = [
+    figures::DAMAGES,
+    signs::DAMAGES,
+    settings::DAMAGES,
+    speeds::DAMAGES,
+];
+
+/// A damage to a case in arrays: the study is then not sound.
+const fn unsound(name: &'static str, part: Part, apply: ToCase) -> Damage<Single> {
+    Damage {
+        name,
+        number: 12,
+        part,
+        apply,
+    }
+}
+
+type ToCase = fn(&mut Single, usize, &mut Random);
 
 /// The damage whose turn it is.
 pub fn in_turn<D>(tables: &[&'static [Damage<D>]], turn: u64) -> &'static Damage<D> {

@@ -19,6 +19,14 @@ extern "C" {
         out: *mut u8,
         out_length: usize,
     ) -> u64;
+    fn case_step(
+        words: *mut u64,
+        words_length: usize,
+        speeds: *mut f64,
+        speeds_length: usize,
+        arrivals: *const u32,
+        arrivals_length: usize,
+    ) -> u64;
 }
 
 /// The file's number.
@@ -51,4 +59,19 @@ pub fn curve(file: &[u8], curve: u64, place: &mut [u64]) -> u64 {
 pub fn write(words: &[u64], out: &mut [u8]) -> u64 {
     // SAFETY: as above; `out` is lent for writing and overlaps nothing.
     unsafe { network_write(words.as_ptr(), words.len(), out.as_mut_ptr(), out.len()) }
+}
+
+/// One step of the network and the case in the arrays.
+pub fn step(words: &mut [u64], speeds: &mut [f64], arrivals: &[u32]) -> u64 {
+    // SAFETY: as above; both arrays are lent for writing, and none overlaps.
+    unsafe {
+        case_step(
+            words.as_mut_ptr(),
+            words.len(),
+            speeds.as_mut_ptr(),
+            speeds.len(),
+            arrivals.as_ptr(),
+            arrivals.len(),
+        )
+    }
 }

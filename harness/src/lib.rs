@@ -1,6 +1,7 @@
 //! The proved engine and the oracle on the same inputs.
 
 pub mod bounds;
+pub mod cases;
 pub mod compare;
 pub mod damages;
 pub mod draft;
@@ -8,4 +9,5 @@ pub mod engine;
 pub mod networks;
 pub mod random;
 pub mod runner;
+pub mod single;
 pub mod words;

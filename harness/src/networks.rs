@@ -11,6 +11,8 @@ pub const LONGEST: u64 = 2000;
 /// Lowest and highest first entry of a curve, in m/h.
 pub const SLOWEST: u64 = 1_000;
 pub const FASTEST: u64 = 200_000;
+/// Exit shares at and beside the ends, in thousandths.
+const TELLING_SHARES: [u64; 4] = [0, 1, 999, 1000];
 
 /// What a test needs of a generated network.
 #[derive(Clone, Copy)]
@@ -30,14 +32,43 @@ pub const ANY: Shape = Shape {
 pub fn network(random: &mut Random, shape: Shape) -> Network {
     let step = random.edge(if shape.binding { 2 } else { 1 }, 60);
     let segments = random.edge(shape.least_segments, 40);
+    built(random, step, segments, shape.binding)
+}
+
+/// A valid network of n segments for steps: the exit shares that round most
+/// tellingly come up often.
+pub fn road(random: &mut Random, segments: u64) -> Network {
+    let step = random.edge(1, 60);
+    let mut network = built(random, step, segments, false);
+    for segment in &mut network.segments[..segments as usize - 1] {
+        if random.once_in(2) {
+            segment.exit_share = random.one_of(&TELLING_SHARES) as u16;
+        }
+    }
+    network
+}
+
+/// The same with head fields such that speeds change little in a step, so
+/// that most of them stay clear of 1,000 and F.
+pub fn calm_road(random: &mut Random, segments: u64) -> Network {
+    let mut network = road(random, segments);
+    network.step = network.step.min(random.between(1, 15) as u8);
+    network.relaxation = random.between(15, 60) as u8;
+    network.anticipation = network.anticipation.min(random.edge(0, 60) as u8);
+    network.kappa = network.kappa.max(20);
+    network
+}
+
+/// T in seconds, n, and whether every curve is a fast one.
+fn built(random: &mut Random, step: u64, segments: u64, binding: bool) -> Network {
     let curve_count = random.edge(1, 8);
     let kept = random.below(curve_count);
     let curves: Vec<Curve> = (0..curve_count)
         .map(|number| {
-            let idle = !shape.binding && number != kept && random.once_in(8);
+            let idle = !binding && number != kept && random.once_in(8);
             let first = match idle {
                 true => random.edge(SLOWEST, FASTEST),
-                false => first_entry(random, step, shape.binding),
+                false => first_entry(random, step, binding),
             };
             curve(random, first as u32)
         })

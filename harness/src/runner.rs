@@ -1,6 +1,6 @@
 //! Runs the tests and says in a line each how they went.
 
-use crate::compare::{Difference, Test, TESTS};
+use crate::compare::{Difference, Inputs, Test, TESTS};
 use crate::random::Random;
 use std::{env, fs};
 
@@ -8,12 +8,22 @@ use std::{env, fs};
 const LEAST_INPUTS: u64 = 500;
 /// Inputs between two progress lines of a fuzz run.
 const PROGRESS: u64 = 1_000_000;
+/// Rounds of a fuzz run for one turn of a test that is asked for by the line
+/// or once.
+const ROUNDS: usize = 10;
 
-/// Every test for its share of the files. Answers how many tests failed.
-pub fn compare(files: u64, seed: u64) -> usize {
+/// How much a comparison is to try.
+pub struct Asked {
+    pub files: u64,
+    pub steps: u64,
+    pub lines: u64,
+}
+
+/// Every test for what is asked of it. Answers how many tests failed.
+pub fn compare(asked: &Asked, seed: u64) -> usize {
     let mut failed = 0;
     for (number, test) in TESTS.iter().enumerate() {
-        let inputs = (files * test.share).div_ceil(100).max(LEAST_INPUTS);
+        let inputs = asked.of(test.inputs);
         let outcome = (0..inputs).try_for_each(|index| try_one(number, seed, index));
         failed += usize::from(!say(test, inputs, outcome));
     }
@@ -23,10 +33,7 @@ pub fn compare(files: u64, seed: u64) -> usize {
 /// The same inputs in turns by their shares, `total` in all; a test that has
 /// failed is left out from then on. Answers how many tests failed.
 pub fn fuzz(total: u64, seed: u64) -> usize {
-    let shares = TESTS.iter().enumerate();
-    let turns: Vec<usize> = shares
-        .flat_map(|(number, test)| vec![number; test.share as usize])
-        .collect();
+    let turns = turns();
     let mut tried = [0; TESTS.len()];
     let mut outcomes: [Outcome; TESTS.len()] = [const { Ok(()) }; TESTS.len()];
     for input in 0..total {
@@ -44,6 +51,36 @@ pub fn fuzz(total: u64, seed: u64) -> usize {
         failed += usize::from(!say(test, tried, outcome));
     }
     finish(failed)
+}
+
+impl Asked {
+    /// How many inputs that is for one test.
+    fn of(&self, inputs: Inputs) -> u64 {
+        let part = |asked: u64, share: u64| (asked * share).div_ceil(100).max(LEAST_INPUTS);
+        match inputs {
+            Inputs::Files(share) => part(self.files, share),
+            Inputs::Steps(share) => part(self.steps, share),
+            Inputs::Lines => self.lines,
+            Inputs::Once => 1,
+        }
+    }
+}
+
+/// The tests in the order of a fuzz run, which begins again after the last.
+fn turns() -> Vec<usize> {
+    let mut often = Vec::new();
+    let mut seldom = Vec::new();
+    for (number, test) in TESTS.iter().enumerate() {
+        match test.inputs {
+            Inputs::Files(share) | Inputs::Steps(share) => {
+                often.extend(vec![number; share as usize])
+            }
+            Inputs::Lines | Inputs::Once => seldom.push(number),
+        }
+    }
+    let mut turns = often.repeat(ROUNDS);
+    turns.extend(seldom);
+    turns
 }
 
 type Outcome = Result<(), Failure>;
@@ -69,7 +106,11 @@ fn try_one(number: usize, seed: u64, index: u64) -> Outcome {
 fn say(test: &Test, inputs: u64, outcome: Outcome) -> bool {
     let name = test.name;
     let Err(failure) = outcome else {
-        println!("ok {name}: {inputs} inputs");
+        let inputs = match inputs {
+            1 => "1 input".to_string(),
+            _ => format!("{inputs} inputs"),
+        };
+        println!("ok {name}: {inputs}");
         return true;
     };
     let Failure {

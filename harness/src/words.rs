@@ -20,7 +20,12 @@ pub struct Stored {
 impl Stored {
     /// The network in its words. The other words hold garbage.
     pub fn new(network: Network, random: &mut Random) -> Stored {
-        let length = NETWORK_WORDS + random.edge(0, 300) as usize;
+        Stored::with_words(network, NETWORK_WORDS, random)
+    }
+
+    /// The same with at least so many words.
+    pub fn with_words(network: Network, least: usize, random: &mut Random) -> Stored {
+        let length = least + random.edge(0, 300) as usize;
         let words = (0..length).map(|_| garbage(random)).collect();
         let mut stored = Stored { network, words };
         stored.put_network();
@@ -38,7 +43,8 @@ impl Stored {
         self.put_network();
     }
 
-    fn put_network(&mut self) {
+    /// Puts the network into its words; the others stay.
+    pub fn put_network(&mut self) {
         self.words[..7].copy_from_slice(&head(&self.network));
         for (curve, entries) in self.network.curves.iter().enumerate() {
             let entries = entries.map(u64::from);

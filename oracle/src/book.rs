@@ -7,7 +7,7 @@
 mod calls;
 mod line;
 mod report;
-mod rows;
+pub(crate) mod rows;
 
 use crate::case::{Case, Setting, Sign};
 use crate::file;

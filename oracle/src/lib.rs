@@ -9,5 +9,6 @@ pub mod file;
 pub mod network;
 mod ranges;
 pub mod refusal;
+pub mod single;
 pub mod step;
 pub mod stored;

@@ -20,6 +20,8 @@ pub const TOO_SHORT_A_SEGMENT: u8 = 8;
 pub const NO_CURVE: u8 = 10;
 /// The lent arrays are too short.
 pub const ARRAYS: u8 = 11;
+/// What the lent arrays hold is not sound.
+pub const NOT_SOUND: u8 = 12;
 /// A list whose length is not n.
 pub const LIST_LENGTH: u8 = 13;
 /// Start: more mv than J × G, speed outside 1,000..F, or a queue above

@@ -9,7 +9,7 @@ use crate::ranges::{judge_curve, judge_record, Head, Record};
 use crate::refusal::{ARRAYS, HEAD_FIELD};
 
 /// Words that the stored network may take.
-const NETWORK_WORDS: usize = 2560;
+pub(crate) const NETWORK_WORDS: usize = 2560;
 const CURVES_AT: usize = 16;
 const RECORDS_AT: usize = 1624;
 const RECORD_WORDS: usize = 16;

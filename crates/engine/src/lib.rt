@@ -3,6 +3,7 @@ ghost use mathlib.Core.Path.{_≡_};
 ghost use Rattle.network.specs.File.{fileNumber};
 ghost use Rattle.network.specs.Curve.{curveCallNumber};
 ghost use Rattle.network.specs.Words.{writeNumber, writeBytes};
+ghost use Rattle.model.specs.Sound.{singleNumber, singleWords, singleSpeeds};
 ghost use Rattle.engine.specs.Place.{placeNumber, placeWords};
 
 // The number that refuses a network file, and 0 where it is accepted.
@@ -48,4 +49,14 @@ pub extern "C" fn network_write(kept: &[u64], out: &mut [u8]) -> u64
     ensures { λ _. ⌜ now (out .exit) ≡ writeBytes (now (kept .entry)) (now (out .entry)) ⌝ }
 {
     network::write(kept, out)
+}
+
+// One step of a network and one case that stand alone in the arrays: 12, 13, 15 or 16, with both arrays as they came, or 0.
+#[no_mangle]
+pub extern "C" fn case_step(words: &mut [u64], speeds: &mut [f64], arrivals: &[u32]) -> u64
+    ensures { λ r. ⌜ r ≡ singleNumber (now (words .entry)) (now (speeds .entry)) (now (arrivals .entry)) ⌝ }
+    ensures { λ _. ⌜ now (words .exit) ≡ singleWords (now (words .entry)) (now (speeds .entry)) (now (arrivals .entry)) ⌝ }
+    ensures { λ _. ⌜ now (speeds .exit) ≡ singleSpeeds (now (words .entry)) (now (speeds .entry)) (now (arrivals .entry)) ⌝ }
+{
+    model::single_step(words, speeds, arrivals)
 }

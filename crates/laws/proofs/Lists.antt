@@ -1,12 +1,15 @@
 -- Laws of tables and of parts of lists.
-use Prim.Native.Nat.{ℕ, zero, suc, _+_, _-_, _*_, _≤_, _<_}
+use Prim.Native.Nat.{ℕ, zero, suc, _+_, _-_, _*_, _≤_, _<_, min}
 use mathlib.Core.Path.{_≡_, refl, sym, ap, ap₂, _∙_}
 use mathlib.Core.Logic.{⊎-elim}
+use mathlib.Core.Bool.{Bool, true, false, cond, _&&_}
 use mathlib.Core.List.{List, [], _∷_, _++_, append-assoc, append-nil}
-use native.Mathlib.Nat.{le-of-suc-le-suc, not-suc-le-zero, eq-or-lt-of-le, mul-zero, mul-suc, add-suc, add-zero}
+use native.Mathlib.Nat.{le-of-suc-le-suc, not-suc-le-zero, eq-or-lt-of-le, mul-zero, mul-suc, add-suc, add-zero, le-trans, le-of-eq}
 use native.Mathlib.Omega.{arith}
-use lib.ListN.{length, getD, take, drop, length-append, length-drop, take-append-drop, List·getD-append}
-use lib.Seq.{getD-at, getD-take, getD-drop, take-add, take-at, drop-at, drop-drop, drop-cons, ext-getD, length-take-le}
+use lib.Dec.{ltb, eqb}
+use lib.ListN.{length, getD, set, take, drop, length-append, length-take, length-drop, take-append-drop, List·getD-append, List·getD-eq-default}
+use lib.Seq.{getD-at, getD-take, getD-drop, take-add, take-at, drop-at, drop-drop, drop-cons, ext-getD, length-take-le, take-all, getD-set-same, getD-set-other, set-out}
+use borrow.Author.Tests.{ltb-true, ltb-false, eqb-true, eqb-false}
 use Rattle.laws.specs.Lists.{table, part, parts}
 
 -- ---- tables
@@ -119,3 +122,27 @@ length-part b s w l = length-take-le w (drop s b) (simp length-drop (omega arith
 -- the length of a part, as its two ends give it
 pub span : (a w : ℕ) → a + w - a ≡ w
 span a w = omega arith
+
+-- a part that runs to the end
+pub rest-is : {A : Type 0} (a : ℕ) (l : List A) → take (length l - a) (drop a l) ≡ drop a l
+rest-is a l = take-all (length l - a) (drop a l) (le-of-eq (length-drop a l))
+
+-- ---- an element after a store and in a part, by tests that compute at numerals
+
+pub getD-set : {A : Type 0} (l : List A) (i j : ℕ) (a d : A) → getD (set l i a) j d ≡ cond (eqb i j && ltb i (length l)) a (getD l j d)
+getD-set {A = A} l i j a d = go (eqb i j) (ltb i (length l)) refl refl
+  where
+    go : (x y : Bool) → eqb i j ≡ x → ltb i (length l) ≡ y → getD (set l i a) j d ≡ cond (x && y) a (getD l j d)
+    go true true p q = ap (λ (k : ℕ). getD (set l i a) k d) (sym (eqb-true i j p)) ∙ getD-set-same l i a d (ltb-true i (length l) q)
+    go true false p q = ap (λ (m : List A). getD m j d) (set-out l i a (ltb-false i (length l) q))
+    go false y p q = getD-set-other l i j a d (λ e. eqb-false i j p (sym e))
+
+pub getD-take-test : {A : Type 0} (n : ℕ) (l : List A) (i : ℕ) (d : A) → getD (take n l) i d ≡ cond (ltb i n) (getD l i d) d
+getD-take-test n l i d = go (ltb i n) refl
+  where
+    short : (k : ℕ) → n ≤ i → min n k ≤ i
+    short k h = omega arith
+
+    go : (x : Bool) → ltb i n ≡ x → getD (take n l) i d ≡ cond x (getD l i d) d
+    go true p = getD-take n l i d (ltb-true i n p)
+    go false p = List·getD-eq-default (take n l) d (le-trans (le-of-eq (length-take n l)) (short (length l) (ltb-false i n p)))

@@ -1,3 +1,5 @@
 pub mod First
 pub mod Lists
 pub mod BigEndian
+pub mod Sums
+pub mod Real

@@ -15,18 +15,21 @@ pub(crate) fn entry(file: &[u8], at: usize, j: usize) -> u64
     number::u32_in(file, at + 4 * j)
 }
 
-// Row 6, of the five entries after entry j.
-fn five_row(file: &[u8], at: usize, j: usize) -> u64
-    requires { ⌜ at + 4 * j + 24 ≤ length (now file) ⌝ }
-    ensures { λ r. ⌜ r ≡ firstOf (λ i. rising (entryAt (now (file .entry)) at) (j + i)) 5 ⌝ }
+// Row 6, of the eight entries after entry j.
+fn eight_row(file: &[u8], at: usize, j: usize) -> u64
+    requires { ⌜ at + 4 * j + 36 ≤ length (now file) ⌝ }
+    ensures { λ r. ⌜ r ≡ firstOf (λ i. rising (entryAt (now (file .entry)) at) (j + i)) 8 ⌝ }
 {
-    number::five_rising(
+    number::eight_rising(
         entry(file, at, j),
         entry(file, at, j + 1),
         entry(file, at, j + 2),
         entry(file, at, j + 3),
         entry(file, at, j + 4),
         entry(file, at, j + 5),
+        entry(file, at, j + 6),
+        entry(file, at, j + 7),
+        entry(file, at, j + 8),
     )
 }
 
@@ -38,8 +41,8 @@ fn curve_row(file: &[u8], at: usize) -> u64
         return 6;
     }
     let mut k = 0;
-    while k < 40 {
-        let r = five_row(file, at, 5 * k);
+    while k < 25 {
+        let r = eight_row(file, at, 8 * k);
         if r != 0 {
             return r;
         }

@@ -9,7 +9,7 @@ mod writer; // writer.rt: a kept network as bytes
 ghost use mathlib.Core.Path.{_≡_};
 ghost use Rattle.network.specs.File.{headOf, segmentOn, fileNumber};
 ghost use Rattle.network.specs.Curve.{curveCallNumber, curveBytes};
-ghost use Rattle.network.specs.Words.{keptNumber, writeNumber, writeBytes};
+ghost use Rattle.network.specs.Words.{headIn, entryIn, segmentIn, keptNumber, writeNumber, writeBytes};
 
 // The numbers of the head: the step T in seconds, the number of segments n, the number of curves c, then τ in seconds, ν in km²/h,
 // κ in veh/km/lane and δ in thousandths.
@@ -93,6 +93,27 @@ pub fn segment_of(file: &[u8], i: u32) -> Segment
 {
     let c = number::byte_at(file, 7) as usize;
     records::read_segment(file, 16 + 804 * c + 16 * (i as usize))
+}
+
+// The head of the network kept in words of any content; a word past their end reads as 0.
+pub fn kept_head(kept: &[u64]) -> Head
+    ensures { λ r. ⌜ r ≡ headIn (now (kept .entry)) ⌝ }
+{
+    words::head_in(kept)
+}
+
+// Segment i, counted from 0, of the network kept in words of any content.
+pub fn kept_segment(kept: &[u64], i: u32) -> Segment
+    ensures { λ r. ⌜ r ≡ segmentIn (now (kept .entry)) i ⌝ }
+{
+    words::segment_in(kept, i as usize)
+}
+
+// Entry j of curve k of the network kept in words of any content.
+pub fn kept_entry(kept: &[u64], k: u32, j: u32) -> u64
+    ensures { λ r. ⌜ r ≡ entryIn (now (kept .entry)) k j ⌝ }
+{
+    number::word_at(kept, 16 + 201 * (k as usize) + (j as usize))
 }
 
 // The number that refuses the network kept in these words: 11 where they are too few, then rows 4, 6, 7 and 8, or 0.

@@ -13,34 +13,33 @@ ghost use Rattle.network.specs.Words.{headIn, entryIn, segmentIn};
 ghost use Rattle.network.specs.Accepted.{Kept, CurvesKept};
 
 pub(crate) fn head_in(kept: &[u64]) -> Head
-    requires { ⌜ 2560 ≤ length (now kept) ⌝ }
     ensures { λ r. ⌜ r ≡ headIn (now (kept .entry)) ⌝ }
 {
     Head {
-        step: kept[0],
-        size: kept[1],
-        curves: kept[2],
-        tau: kept[3],
-        nu: kept[4],
-        kappa: kept[5],
-        delta: kept[6],
+        step: number::word_at(kept, 0),
+        size: number::word_at(kept, 1),
+        curves: number::word_at(kept, 2),
+        tau: number::word_at(kept, 3),
+        nu: number::word_at(kept, 4),
+        kappa: number::word_at(kept, 5),
+        delta: number::word_at(kept, 6),
     }
 }
 
 pub(crate) fn segment_in(kept: &[u64], i: usize) -> Segment
-    requires { ⌜ (2560 ≤ length (now kept)) × (i < 40) ⌝ }
+    requires { ⌜ i < 1000000000000 ⌝ }
     ensures { λ r. ⌜ r ≡ segmentIn (now (kept .entry)) i ⌝ }
 {
     let at = 1624 + 16 * i;
     Segment {
-        metres: kept[at],
-        lanes: kept[at + 1],
-        curve: kept[at + 2],
-        critical: kept[at + 3],
-        jam: kept[at + 4],
-        origin: kept[at + 5],
-        exit: kept[at + 6],
-        most: kept[at + 7],
+        metres: number::word_at(kept, at),
+        lanes: number::word_at(kept, at + 1),
+        curve: number::word_at(kept, at + 2),
+        critical: number::word_at(kept, at + 3),
+        jam: number::word_at(kept, at + 4),
+        origin: number::word_at(kept, at + 5),
+        exit: number::word_at(kept, at + 6),
+        most: number::word_at(kept, at + 7),
     }
 }
 
@@ -52,18 +51,21 @@ fn entry_in(kept: &[u64], k: usize, j: usize) -> u64
     kept[16 + 201 * k + j]
 }
 
-// Row 6, of the five entries after entry j.
-fn five_row(kept: &[u64], k: usize, j: usize) -> u64
-    requires { ⌜ (2560 ≤ length (now kept)) × (k < 8) × (j ≤ 195) ⌝ }
-    ensures { λ r. ⌜ r ≡ firstOf (λ i. rising (entryIn (now (kept .entry)) k) (j + i)) 5 ⌝ }
+// Row 6, of the eight entries after entry j.
+fn eight_row(kept: &[u64], k: usize, j: usize) -> u64
+    requires { ⌜ (2560 ≤ length (now kept)) × (k < 8) × (j ≤ 192) ⌝ }
+    ensures { λ r. ⌜ r ≡ firstOf (λ i. rising (entryIn (now (kept .entry)) k) (j + i)) 8 ⌝ }
 {
-    number::five_rising(
+    number::eight_rising(
         entry_in(kept, k, j),
         entry_in(kept, k, j + 1),
         entry_in(kept, k, j + 2),
         entry_in(kept, k, j + 3),
         entry_in(kept, k, j + 4),
         entry_in(kept, k, j + 5),
+        entry_in(kept, k, j + 6),
+        entry_in(kept, k, j + 7),
+        entry_in(kept, k, j + 8),
     )
 }
 
@@ -76,8 +78,8 @@ fn curve_row(kept: &[u64], k: usize) -> u64
         return 6;
     }
     let mut m = 0;
-    while m < 40 {
-        let r = five_row(kept, k, 5 * m);
+    while m < 25 {
+        let r = eight_row(kept, k, 8 * m);
         if r != 0 {
             return r;
         }

@@ -1,23 +1,28 @@
 //! Compares the engine with the oracle.
 //!
-//! `compare [--files N] [--seed S]` runs every test, `compare --fuzz N
-//! [--seed S]` runs N inputs of all tests in turns.
+//! `compare [--files N] [--steps N] [--lines K] [--seed S]` runs every test,
+//! `compare --fuzz N [--seed S]` runs N inputs of all tests in turns.
 
-use harness::runner;
+use harness::runner::{self, Asked};
 use std::process::ExitCode;
 
-const DEFAULT_FILES: u64 = 200_000;
+const DEFAULT_ASKED: Asked = Asked {
+    files: 200_000,
+    steps: 20_000,
+    lines: 50,
+};
 const DEFAULT_SEED: u64 = 24_301;
 
 fn main() -> ExitCode {
     let Some(wish) = read_arguments() else {
-        eprintln!("usage: compare [--files N | --fuzz N] [--seed S]");
+        eprintln!("usage: compare [--files N] [--steps N] [--lines K] [--seed S]");
+        eprintln!("       compare --fuzz N [--seed S]");
         return ExitCode::from(2);
     };
     println!("seed {}", wish.seed);
     let failed = match wish.fuzz {
         Some(total) => runner::fuzz(total, wish.seed),
-        None => runner::compare(wish.files, wish.seed),
+        None => runner::compare(&wish.asked, wish.seed),
     };
     match failed {
         0 => ExitCode::SUCCESS,
@@ -26,7 +31,7 @@ fn main() -> ExitCode {
 }
 
 struct Wish {
-    files: u64,
+    asked: Asked,
     seed: u64,
     fuzz: Option<u64>,
 }
@@ -34,7 +39,7 @@ struct Wish {
 /// The wish of the command line, or nothing if it cannot be understood.
 fn read_arguments() -> Option<Wish> {
     let mut wish = Wish {
-        files: DEFAULT_FILES,
+        asked: DEFAULT_ASKED,
         seed: DEFAULT_SEED,
         fuzz: None,
     };
@@ -42,7 +47,9 @@ fn read_arguments() -> Option<Wish> {
     while let Some(name) = arguments.next() {
         let number = arguments.next()?.parse().ok()?;
         match name.as_str() {
-            "--files" => wish.files = number,
+            "--files" => wish.asked.files = number,
+            "--steps" => wish.asked.steps = number,
+            "--lines" => wish.asked.lines = number,
             "--seed" => wish.seed = number,
             "--fuzz" => wish.fuzz = Some(number),
             _ => return None,

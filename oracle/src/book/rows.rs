@@ -11,7 +11,7 @@ use crate::refusal::{
 /// Most mv in a queue at Start, and most mv that arrive in a step.
 const MOST_WAITING: u64 = 1_000_000;
 /// Most steps on a line.
-const LINE_STEPS: u64 = 20_000;
+pub const LINE_STEPS: u64 = 20_000;
 /// Most accepted steps since Start.
 const RUNS: u64 = 1_000_000;
 

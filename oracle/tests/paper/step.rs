@@ -179,7 +179,8 @@ fn alinea_moves_at_its_interval() {
     assert_eq!(rates[3], rates[2]);
 }
 
-fn three_segment_start() -> Case {
+/// A start case of three segments; the second has a sign and ALINEA.
+pub fn three_segment_start() -> Case {
     let network = networks::three_segments();
     let counts = [45_000, 61_007, 70_011];
     let speeds = [88_000, 71_000, 64_000];

@@ -1,4 +1,4 @@
--- The start is in range, and none of the first k fives is refused. The measure is how many of the 40 are left.
+-- The start is in range, and none of the first k eights is refused. The measure is how many of the 25 are left.
 use Prim.Native.Nat.{ℕ, _-_}
 use borrow.Author.Needs.{needs}
 use mathlib.Core.Path.{_≡_, sym, ap, _∙_}
@@ -12,7 +12,7 @@ abbrev Inv-loop : tie.InvT-loop
 Inv-loop kept k m₀ m = Falling (entryIn kept k) m
 
 abbrev μ-loop : tie.MeasureT-loop
-μ-loop kept k m₀ m = 40 - m
+μ-loop kept k m₀ m = 25 - m
 
 -- the value of the first test
 started :
@@ -30,12 +30,12 @@ loop-holds c = curve-begun _ (started (c .before) ∙ c .if1 .left)
 returns-2 : tie.Need-returns-2 Inv-loop μ-loop
 returns-2 c =
     let l = c .before .before .before in
-    curve-rises _ (l .loop .inv) (c .before .five-row .ensures) (c .before .before .loop-test .taken) (c .if2 .taken)
+    curve-rises _ (l .loop .inv) (c .before .eight-row .ensures) (c .before .before .loop-test .taken) (c .if2 .taken)
 
 loop-again : tie.Need-loop-again Inv-loop μ-loop
 loop-again c =
     let l = c .before .before .before in
-    curve-falls _ (l .loop .inv) (c .before .five-row .ensures) (c .before .before .loop-test .taken) (c .if2 .left)
+    curve-falls _ (l .loop .inv) (c .before .eight-row .ensures) (c .before .before .loop-test .taken) (c .if2 .left)
 
 returns-3 : tie.Need-returns-3 Inv-loop μ-loop
 returns-3 c = curve-passes _ (c .before .loop .inv) (c .loop-test .left)

@@ -1,0 +1,13 @@
+pub mod FlowLaws
+pub mod SegmentLaws
+pub mod Turns
+pub mod ReadBack
+pub mod CaseLaws
+pub mod Balance
+pub mod SoundLaws
+pub mod SingleLaws
+pub mod MarkedCases
+pub mod Formed
+pub mod SameNetwork
+pub mod OneStep
+pub mod Coded

@@ -1,0 +1,11 @@
+use borrow.Author.Needs.{needs}
+use Rattle.model.specs.Sound.{fixedBad}
+use Rattle.model.proofs.sound.fixed_bad.Statement.{statement}
+use Rattle.model.proofs.sound.fixed_bad.Tie as tie
+
+returns : tie.Need-returns
+unfolding fixedBad
+returns c = cc
+
+pub fixed-bad-spec : {M : Type 1} → statement M
+fixed-bad-spec = tie.close (tie.spec (λ c κs. search needs) returns)

@@ -1,0 +1,11 @@
+use borrow.Author.Needs.{needs}
+use Rattle.model.specs.Sound.{openBad}
+use Rattle.model.proofs.sound.open_bad.Statement.{statement}
+use Rattle.model.proofs.sound.open_bad.Tie as tie
+
+returns : tie.Need-returns
+unfolding openBad
+returns c = cc
+
+pub open-bad-spec : {M : Type 1} → statement M
+open-bad-spec = tie.close (tie.spec (λ c κs. search needs) returns)

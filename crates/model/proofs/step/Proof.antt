@@ -1,0 +1,71 @@
+-- The arrivals and the mv before the step are summed, the rows are stepped, and the totals are added to.
+use Prim.Native.Nat.{_+_, _*_, _≤_}
+use native.Mathlib.Omega.{arith}
+use lib.ListN.{getD}
+use borrow.Author.Needs.{needs}
+use Rattle.laws.proofs.Lists.{span}
+use Rattle.model.proofs.Turns.{size-high}
+use Rattle.model.proofs.CaseLaws.{vehicles-high, spent-high, totals-ok, case-made}
+use Rattle.model.proofs.step.Statement.{statement}
+use Rattle.model.proofs.step.Tie as tie
+
+-- ---- what holds once the rows are stepped
+abbrev held : tie.After-step-rows → tie.After-vehicles-in
+held c = c .before .before .before
+
+abbrev start : tie.After-step-rows → tie.Start
+start c = held c .before .before .before .before .before .before .before .before
+
+spent : (c : tie.After-step-rows) → getD (start c .args .words .now) 0 0 * held c .vehicles-in .result ≤ 4800000000000000
+spent c = spent-high (start c .pre .0) _ (omega (arith, held c .vehicles-in .ensures .1, size-high (start c .pre .0)))
+
+-- ---- the needs
+vehicles-in-requires : tie.Need-vehicles-in-requires
+vehicles-in-requires c κs =
+    let s = c .before .before .before .before .before .before .before in
+    ((size-high (s .pre .0), s .pre .0 .room), vehicles-high (s .pre .0))
+
+mul-add-totals-2 : tie.Need-mul-add-totals-2
+mul-add-totals-2 c = omega (arith, spent (c .before .before .before .before .before))
+
+add-totals-requires : tie.Need-add-totals-requires
+add-totals-requires c κs =
+    let r = c .before .before .before .before .before in
+    let s = start r in
+    let k = totals-ok (s .pre .0) (s .pre .1) (r .step-rows .ensures .makes) _ (span (s .args .at + 16 * s .args .n) 8) in (
+      (k .0, omega (arith, held r .before .before .sum-arrivals .ensures .1, size-high (s .pre .0)), omega (arith, r .step-rows .ensures .bound), omega (arith, spent r)),
+      k .1,
+    )
+
+returns : tie.Need-returns
+returns c =
+    let r = c .before .before .before .before .before .before .before .before in
+    let s = start r in
+    let made = r .step-rows .ensures in (
+      case-made (s .pre .0) (s .pre .1) (made .makes) (span (s .args .at + 16 * s .args .n) 8) (held r .before .before .sum-arrivals .ensures .0) (made .leaves) (held r .vehicles-in .ensures .0)
+          (c .before .before .add-totals .ensures),
+      made .paces,
+    )
+
+pub step-spec : {M : Type 1} → statement M
+step-spec =
+    tie.close
+    (tie.spec
+    (λ c. search needs)
+    (λ c. search needs)
+    (λ c. search needs)
+    (λ c. search needs)
+    (λ c. search needs)
+    (λ c. search needs)
+    (λ c κs. search needs)
+    vehicles-in-requires
+    (λ c κs. search needs)
+    (λ c. search needs)
+    (λ c. search needs)
+    (λ c. search needs)
+    (λ c. search needs)
+    mul-add-totals-2
+    add-totals-requires
+    (λ c. search needs)
+    (λ c. search needs)
+    returns)

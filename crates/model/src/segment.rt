@@ -1,0 +1,225 @@
+// One segment of a step.
+use crate::Around;
+use crate::Old;
+use crate::Row;
+use crate::Sign;
+use crate::flow;
+use crate::speed;
+use network::Head;
+use network::Segment;
+ghost use mathlib.Core.Path.{_≡_};
+ghost use mathlib.Core.Bool.{_&&_};
+ghost use Prim.Native.Nat.{_+_, _-_, _*_, _<_, _≤_};
+ghost use lib.Dec.{eqb, ltb};
+ghost use lib.ListN.{length, getD, take, drop};
+ghost use Rattle.laws.specs.Real.{real, _⊘_};
+ghost use Rattle.network.specs.Accepted.{HeadWithin, CurveWithin};
+ghost use Rattle.network.specs.Words.{headIn, entryIn, segmentIn};
+ghost use Rattle.model.specs.Flow.{exitPart};
+ghost use Rattle.model.specs.Speed.{area};
+ghost use Rattle.model.specs.Step.{signOf, desiredSpeed, rateNow, outflowNow, made};
+ghost use Rattle.model.specs.Words.{netOf, rowIn};
+ghost use Rattle.model.specs.Ready.{AreaOk, SegmentOk, RowOk, FreshOk, afterIn, freshIn};
+
+fn sign_of(r: Row) -> Sign
+    requires { ⌜ (r .limit ≤ 200) × (r .compliance ≤ 1000) ⌝ }
+    ensures { λ x. ⌜ x ≡ signOf r ⌝ }
+{
+    if r.limit == 0 {
+        return Sign::Dark;
+    }
+    Sign::Shown(speed::whole(r.limit * (500 + r.compliance)))
+}
+
+// G, in lane-metres.
+fn area_of(s: Segment) -> u64
+    requires { ⌜ AreaOk s ⌝ }
+    ensures { λ r. ⌜ (r ≡ area s) × (0 < r) × (r ≤ 16000) ⌝ }
+{
+    s.metres * s.lanes
+}
+
+fn density_of(g: u64, count: u64) -> f64
+    requires { ⌜ (g ≤ 16000) × (count ≤ 1000000000000) ⌝ }
+    ensures { λ r. ⌜ r ≡ real count ⊘ real g ⌝ }
+{
+    speed::whole(count) / speed::whole(g)
+}
+
+fn rate_of(s: Segment, r: Row, f: u64, g: u64, t: u64) -> u64
+    requires { ⌜ (g ≡ area s) × (0 < g) × (g ≤ 16000) × (s .most ≤ 300000) ⌝ }
+    requires { ⌜ RowOk s f r ⌝ }
+    ensures { λ x. ⌜ x ≡ rateNow s r t ⌝ }
+{
+    if r.kind == 2 {
+        if t % r.interval == 0 {
+            return flow::alinea(r.rate, r.gain, r.target, r.least, s.most, g, r.count);
+        }
+        return r.rate;
+    }
+    if r.kind == 0 {
+        return s.most;
+    }
+    r.rate
+}
+
+fn outflow_of(h: Head, s: Segment, f: u64, r: Row) -> u64
+    requires { ⌜ HeadWithin h ⌝ }
+    requires { ⌜ SegmentOk h s f ⌝ }
+    requires { ⌜ RowOk s f r ⌝ }
+    ensures { λ x. ⌜ (x ≡ outflowNow h s r) × (x ≤ r .count) ⌝ }
+{
+    flow::outflow(
+        r.count,
+        std::num::truncating_f64_to_u64(r.speed),
+        h.step,
+        s.metres,
+    )
+}
+
+// The new row of a segment, from its old one and what is around it.
+fn make(h: Head, s: Segment, f: u64, r: Row, t: u64, d: u64, merges: bool, o: Around) -> Row
+    requires { ⌜ HeadWithin h ⌝ }
+    requires { ⌜ SegmentOk h s f ⌝ }
+    requires { ⌜ RowOk s f r ⌝ }
+    requires { ⌜ (d ≤ 1000000) × (o .passed ≤ 1000000000000) ⌝ }
+    ensures { λ x. ⌜ x ≡ made h s f r t d merges o ⌝ }
+{
+    let g = area_of(s);
+    let rate = rate_of(s, r, f, g, t);
+    let waiting = r.queue + d;
+    let bound = flow::jam_bound(s.most, s.jam, s.critical, g, r.count);
+    let release = flow::release_of(waiting, rate, bound);
+    let out = outflow_of(h, s, f, r);
+    let old = Old {
+        count: r.count,
+        queue: r.queue,
+        speed: r.speed,
+        density: density_of(g, r.count),
+        before: o.before,
+        after: o.after,
+    };
+    let v = speed::new_speed(h, s, f, old, o.want, merges, release);
+    Row {
+        count: r.count + release + o.passed - out,
+        queue: waiting - release,
+        limit: r.limit,
+        compliance: r.compliance,
+        kind: r.kind,
+        rate,
+        target: r.target,
+        gain: r.gain,
+        least: r.least,
+        interval: r.interval,
+        outflow: out,
+        release,
+        speed: v,
+    }
+}
+
+// ρ': the density of the next segment, whose row starts 16 words on, or the boundary's after the last.
+fn after_of(net: &[u64], rest: &[u64], i: usize, n: usize, s: Segment, count: u64, g: u64) -> f64
+    requires { ⌜ (n ≤ 40) × (i < n) × (16 * (n - i) ≤ length (now rest)) ⌝ }
+    requires { ⌜ (g ≡ area s) × (g ≤ 16000) × (s .critical ≤ 200) × (count ≤ 1000000000000) ⌝ }
+    requires { ⌜ (i + 1 < n → getD (now rest) 16 0 ≤ 1000000000000) ⌝ }
+    requires { ⌜ (i + 1 < n → AreaOk (segmentIn (now net) (i + 1))) ⌝ }
+    ensures { λ r. ⌜ r ≡ afterIn (now (net .entry)) (now (rest .entry)) i n s count ⌝ }
+{
+    let k = i + 1;
+    if k < n {
+        let next = network::kept_segment(net, k as u32);
+        return density_of(area_of(next), rest[16]);
+    }
+    if count < s.critical * g {
+        return density_of(g, count);
+    }
+    speed::whole(s.critical)
+}
+
+// The desired speed V, m/h.
+fn want_of(net: &[u64], s: Segment, f: u64, r: Row, g: u64) -> f64
+    requires { ⌜ (g ≡ area s) × (0 < g) × (g ≤ 16000) × (s .curve < 8) ⌝ }
+    requires { ⌜ CurveWithin (entryIn (now net) (s .curve)) ⌝ }
+    requires { ⌜ RowOk s f r ⌝ }
+    ensures { λ x. ⌜ x ≡ desiredSpeed (entryIn (now (net .entry)) (s .curve)) s r ⌝ }
+{
+    let v = speed::curve_speed(net, s.curve, r.count, g);
+    speed::desired(v, sign_of(r))
+}
+
+// Whether segment i, counted from 0, is an origin past segment 1: a release merges there, and it may be metered.
+pub(crate) fn merges_at(origin: u64, i: usize) -> bool
+    ensures { λ r. ⌜ r ≡ (eqb origin 1 && ltb 0 i) ⌝ }
+{
+    if origin == 1 {
+        return 0 < i;
+    }
+    false
+}
+
+// The row at the start of these words.
+pub(crate) fn row_of(w: &[u64], v: f64) -> Row
+    requires { ⌜ 16 ≤ length (now w) ⌝ }
+    ensures { λ r. ⌜ r ≡ rowIn (now (w .entry)) v ⌝ }
+{
+    Row {
+        count: w[0],
+        queue: w[1],
+        limit: w[2],
+        compliance: w[3],
+        kind: w[4],
+        rate: w[5],
+        target: w[6],
+        gain: w[7],
+        least: w[8],
+        interval: w[9],
+        outflow: w[10],
+        release: w[11],
+        speed: v,
+    }
+}
+
+// The new row of segment i, whose old row starts at word a: v is its speed, d its arrivals, passed and before what the segment before
+// it passes on and its speed.
+pub(crate) fn fresh(
+    words: &[u64],
+    a: usize,
+    v: f64,
+    d: u64,
+    i: usize,
+    n: usize,
+    t: u64,
+    passed: u64,
+    before: f64,
+) -> Row
+    requires { ⌜ FreshOk (now words) a v d i n passed ⌝ }
+    ensures { λ r. ⌜ r ≡ freshIn (netOf (now (words .entry))) (drop a (now (words .entry))) v d i n t passed before ⌝ }
+{
+    let net = &words[..2560];
+    let rest = &words[a..];
+    let h = network::kept_head(net);
+    let s = network::kept_segment(net, i as u32);
+    let f = network::kept_entry(net, s.curve as u32, 0);
+    let r = row_of(rest, v);
+    let g = area_of(s);
+    let after = after_of(net, rest, i, n, s, r.count, g);
+    let want = want_of(net, s, f, r, g);
+    let merges = merges_at(s.origin, i);
+    let o = Around {
+        passed,
+        before,
+        after,
+        want,
+    };
+    make(h, s, f, r, t, d, merges, o)
+}
+
+// What segment i passes on of an outflow.
+pub(crate) fn pass_on(words: &[u64], i: usize, out: u64) -> u64
+    requires { ⌜ (2560 ≤ length (now words)) × (i < 40) × (out ≤ 1000000000000) ⌝ }
+    requires { ⌜ segmentIn (netOf (now words)) i .exit ≤ 1000 ⌝ }
+    ensures { λ r. ⌜ r ≡ out - exitPart out (segmentIn (netOf (now (words .entry))) i .exit) ⌝ }
+{
+    let s = network::kept_segment(&words[..2560], i as u32);
+    out - flow::exit_part(out, s.exit)
+}

@@ -1,0 +1,155 @@
+// Whether a case is sound.
+use crate::Row;
+use crate::segment;
+use crate::speed;
+use crate::totals;
+use network::Segment;
+ghost use mathlib.Core.Path.{_≡_};
+ghost use Prim.Native.Nat.{_<_, _≤_};
+ghost use Rattle.laws.specs.First.{outside, firstOf};
+ghost use Rattle.model.specs.Ready.{CaseAt};
+ghost use Rattle.model.specs.Sound.{signBad, hasAlinea, openBad, fixedBad, alineaBad, settingBad, speedBad, rowBad, totalsBad, rowNumberIn, caseNumberIn};
+
+fn outside(least: u64, x: u64, most: u64) -> bool
+    ensures { λ r. ⌜ r ≡ outside least x most ⌝ }
+{
+    (x < least) | (most < x)
+}
+
+fn sign_bad(r: Row) -> bool
+    ensures { λ x. ⌜ x ≡ signBad r ⌝ }
+{
+    if r.limit == 0 {
+        return 0 < r.compliance;
+    }
+    outside(20, r.limit, 200) | (1000 < r.compliance)
+}
+
+// Whether any figure that only ALINEA has is there.
+fn has_alinea(r: Row) -> bool
+    ensures { λ x. ⌜ x ≡ hasAlinea r ⌝ }
+{
+    (0 < r.target) | (0 < r.gain) | (0 < r.least) | (0 < r.interval)
+}
+
+fn open_bad(s: Segment, r: Row) -> bool
+    ensures { λ x. ⌜ x ≡ openBad s r ⌝ }
+{
+    has_alinea(r) | (r.rate != s.most)
+}
+
+fn fixed_bad(s: Segment, r: Row) -> bool
+    ensures { λ x. ⌜ x ≡ fixedBad s r ⌝ }
+{
+    has_alinea(r) | (s.most < r.rate)
+}
+
+fn alinea_bad(s: Segment, r: Row) -> bool
+    ensures { λ x. ⌜ x ≡ alineaBad s r ⌝ }
+{
+    outside(1, r.target, 199)
+        | outside(1, r.gain, 60000)
+        | (s.most < r.least)
+        | outside(1, r.interval, 60)
+        | outside(r.least, r.rate, s.most)
+}
+
+// m says whether the segment may be metered.
+fn setting_bad(m: bool, s: Segment, r: Row) -> bool
+    ensures { λ x. ⌜ x ≡ settingBad m s r ⌝ }
+{
+    if r.kind == 0 {
+        return open_bad(s, r);
+    }
+    if r.kind == 1 {
+        return !m | fixed_bad(s, r);
+    }
+    if r.kind == 2 {
+        return !m | alinea_bad(s, r);
+    }
+    true
+}
+
+// NaN is in no range.
+fn speed_bad(f: u64, v: f64) -> bool
+    requires { ⌜ f ≤ 200000 ⌝ }
+    ensures { λ r. ⌜ r ≡ speedBad f v ⌝ }
+{
+    !((speed::whole(1000) <= v) & (v <= speed::whole(f)))
+}
+
+// One segment's part of a case.
+fn row_bad(m: bool, s: Segment, f: u64, r: Row) -> bool
+    requires { ⌜ f ≤ 200000 ⌝ }
+    ensures { λ x. ⌜ x ≡ rowBad m s f r ⌝ }
+{
+    (1000000000000 < r.count)
+        | (1000000000000 < r.queue)
+        | (1000000000000 < r.outflow)
+        | (1000000000000 < r.release)
+        | sign_bad(r)
+        | setting_bad(m, s, r)
+        | speed_bad(f, r.speed)
+}
+
+// 12, of row i of the case.
+fn row_number(words: &[u64], speeds: &[f64], at: usize, from: usize, n: usize, i: usize) -> u64
+    requires { ⌜ CaseAt (now words) (now speeds) at from n ⌝ }
+    requires { ⌜ i < n ⌝ }
+    ensures { λ r. ⌜ r ≡ rowNumberIn (now (words .entry)) (now (speeds .entry)) at from n i ⌝ }
+{
+    let net = &words[..2560];
+    let s = network::kept_segment(net, i as u32);
+    let f = network::kept_entry(net, s.curve as u32, 0);
+    let a = at + 16 * i;
+    let b = from + i;
+    let r = segment::row_of(&words[a..], speeds[b]);
+    if row_bad(segment::merges_at(s.origin, i), s, f, r) {
+        return 12;
+    }
+    0
+}
+
+// 12, of the first row that is not sound.
+fn rows_number(words: &[u64], speeds: &[f64], at: usize, from: usize, n: usize) -> u64
+    requires { ⌜ CaseAt (now words) (now speeds) at from n ⌝ }
+    ensures { λ r. ⌜ r ≡ firstOf (rowNumberIn (now (words .entry)) (now (speeds .entry)) at from n) n ⌝ }
+{
+    let mut i = 0;
+    while i < n {
+        let r = row_number(words, speeds, at, from, n, i);
+        if r != 0 {
+            return r;
+        }
+        i += 1;
+    }
+    0
+}
+
+// held is the mv in segments and queues.
+fn totals_bad(held: u64, steps: u64, arrivals: u64, exits: u64, time: u64) -> bool
+    ensures { λ r. ⌜ r ≡ totalsBad held steps arrivals exits time ⌝ }
+{
+    (1000000000000 < held)
+        | (1000000000000 < arrivals)
+        | (1000000000000 < exits)
+        | (1000000000000000000 < time)
+        | (20000 < steps)
+}
+
+// 12 where the case whose rows start at word at and whose speeds start at from is not sound.
+pub(crate) fn case_number(words: &[u64], speeds: &[f64], at: usize, from: usize, n: usize) -> u64
+    requires { ⌜ CaseAt (now words) (now speeds) at from n ⌝ }
+    ensures { λ r. ⌜ r ≡ caseNumberIn (now (words .entry)) (now (speeds .entry)) at from n ⌝ }
+{
+    let in_rows = rows_number(words, speeds, at, from, n);
+    if in_rows != 0 {
+        return in_rows;
+    }
+    let held = totals::vehicles_in(words, at, n);
+    let e = at + 16 * n;
+    if totals_bad(held, words[e], words[e + 1], words[e + 2], words[e + 3]) {
+        return 12;
+    }
+    0
+}

@@ -1,0 +1,3 @@
+pub mod Arrangement
+pub mod Sound
+pub mod Ready

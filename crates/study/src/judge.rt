@@ -1,0 +1,81 @@
+// Whether a study is sound: 12, or 0.
+ghost use mathlib.Core.Path.{_≡_};
+ghost use Prim.Native.Nat.{_+_, _<_, _≤_};
+ghost use Rattle.laws.specs.First.{firstOf};
+ghost use Rattle.model.specs.Sound.{caseNumberIn};
+ghost use Rattle.study.specs.Arrangement.{caseWord, caseSpeed};
+ghost use Rattle.study.specs.Sound.{placeNumber, slotNumber, casesNumber, soundNumber};
+ghost use Rattle.study.specs.Ready.{Laid};
+
+// Case k.
+fn place_number(words: &[u64], speeds: &[f64], n: usize, k: usize) -> u64
+    requires { ⌜ Laid (now words) (now speeds) n ⌝ }
+    requires { ⌜ k ≤ 6 ⌝ }
+    ensures { λ r. ⌜ r ≡ placeNumber (now (words .entry)) (now (speeds .entry)) k ⌝ }
+{
+    model::case_number(words, speeds, 2576 + k * (16 * n + 8), k * n, n)
+}
+
+// Slot k: its mark is 0, or 1 with a sound case.
+fn slot_number(words: &[u64], speeds: &[f64], n: usize, k: usize) -> u64
+    requires { ⌜ Laid (now words) (now speeds) n ⌝ }
+    requires { ⌜ k ≤ 6 ⌝ }
+    ensures { λ r. ⌜ r ≡ slotNumber (now (words .entry)) (now (speeds .entry)) k ⌝ }
+{
+    let mark = words[2560 + k];
+    if 1 < mark {
+        return 12;
+    }
+    if mark == 0 {
+        return 0;
+    }
+    place_number(words, speeds, n, k)
+}
+
+fn slots_number(words: &[u64], speeds: &[f64], n: usize) -> u64
+    requires { ⌜ Laid (now words) (now speeds) n ⌝ }
+    ensures { λ r. ⌜ r ≡ firstOf (λ k. slotNumber (now (words .entry)) (now (speeds .entry)) (k + 1)) 6 ⌝ }
+{
+    let mut k = 0;
+    while k < 6 {
+        let r = slot_number(words, speeds, n, k + 1);
+        if r != 0 {
+            return r;
+        }
+        k += 1;
+    }
+    0
+}
+
+// The cases and the run count of a study whose network and lengths are judged.
+fn cases_number(words: &[u64], speeds: &[f64], n: usize) -> u64
+    requires { ⌜ Laid (now words) (now speeds) n ⌝ }
+    ensures { λ r. ⌜ r ≡ casesNumber (now (words .entry)) (now (speeds .entry)) ⌝ }
+{
+    if 1000000 < words[2560] {
+        return 12;
+    }
+    let live = place_number(words, speeds, n, 0);
+    if live != 0 {
+        return live;
+    }
+    slots_number(words, speeds, n)
+}
+
+pub(crate) fn sound_number(words: &[u64], speeds: &[f64]) -> u64
+    ensures { λ r. ⌜ r ≡ soundNumber (now (words .entry)) (now (speeds .entry)) ⌝ }
+{
+    if words.len() < 2560 {
+        return 12;
+    }
+    let net = &words[..2560];
+    if 0 < network::kept_number(net) {
+        return 12;
+    }
+    let h = network::kept_head(net);
+    let n = h.size as usize;
+    if (words.len() < 2576 + 7 * (16 * n + 8)) | (speeds.len() < 7 * n) {
+        return 12;
+    }
+    cases_number(words, speeds, n)
+}

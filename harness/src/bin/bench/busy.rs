@@ -1,0 +1,109 @@
+//! A busy road for the benchmark: about as much arrives as leaves, so that
+//! the same case can be stepped again and again.
+
+use harness::random::Random;
+use oracle::case::{Alinea, Case, Setting, Sign};
+use oracle::file::{Curve, Network, Segment};
+
+/// Free speed of the first curve in m/h; each further one is slower.
+const FREE_SPEED: f64 = 102_000.0;
+/// Critical density in veh/km/lane, and the exponent of the curve.
+const CRITICAL: f64 = 33.5;
+const EXPONENT: f64 = 1.867;
+
+/// n segments of two lanes: an on-ramp at every fourth, an off-ramp two
+/// segments after it.
+pub fn road(segments: usize, curves: usize) -> Network {
+    Network {
+        step: 10,
+        relaxation: 18,
+        anticipation: 60,
+        kappa: 40,
+        merging: 12,
+        curves: (0..curves).map(curve).collect(),
+        segments: (0..segments)
+            .map(|place| segment(place, segments, curves))
+            .collect(),
+    }
+}
+
+/// Traffic below the critical density. Ramps are open, fixed and ALINEA in
+/// turn; every third segment shows a limit.
+pub fn traffic(network: &Network) -> Case {
+    let n = network.segments.len();
+    let full = |segment: &Segment| 25 * segment.lane_metres();
+    let counts: Vec<u64> = network.segments.iter().map(full).collect();
+    let mut case = Case::start(network, &counts, &vec![75_000; n], &vec![0; n]);
+    let both = case.segments.iter_mut().zip(&network.segments);
+    for (place, (state, segment)) in both.enumerate() {
+        if place > 0 && segment.origin {
+            state.set_meter(segment, setting(place));
+        }
+        if place % 3 == 1 {
+            let (limit, compliance) = (80, 50);
+            state.sign = Sign::Shown { limit, compliance };
+        }
+    }
+    case
+}
+
+/// Arrivals of many steps, in mv: about 3,600 vehicles an hour on the road
+/// and 300 at each ramp.
+pub fn arrivals(network: &Network) -> Vec<Vec<u32>> {
+    let mut random = Random::new(1, 2, 3);
+    let mut arriving = |(place, segment): (usize, &Segment)| match segment.origin {
+        true if place == 0 => random.between(8_000, 12_000) as u32,
+        true => random.between(0, 1_600) as u32,
+        false => 0,
+    };
+    let mut step = |_| {
+        let places = network.segments.iter().enumerate();
+        places.map(&mut arriving).collect()
+    };
+    (0..64).map(&mut step).collect()
+}
+
+/// mv per lane-metre over the road: its mean density in veh/km/lane.
+pub fn density(network: &Network, counts: impl Iterator<Item = u64>) -> u64 {
+    let metres: u64 = network.segments.iter().map(Segment::lane_metres).sum();
+    counts.sum::<u64>() / metres
+}
+
+fn segment(place: usize, segments: usize, curves: usize) -> Segment {
+    let origin = place.is_multiple_of(4);
+    let leaves = place % 4 == 2 && place + 1 < segments;
+    Segment {
+        length: 500 + 50 * (place % 5) as u16,
+        lanes: 2,
+        curve: (place % curves) as u8,
+        critical: 33,
+        jam: 180,
+        origin,
+        exit_share: if leaves { 75 } else { 0 },
+        most_released: match origin {
+            true if place == 0 => 12_000,
+            true => 5_000,
+            false => 0,
+        },
+    }
+}
+
+/// METANET's equation 5 in whole m/h.
+fn curve(number: usize) -> Curve {
+    let free_speed = FREE_SPEED - 500.0 * number as f64;
+    let fall = |density: f64| (-(density / CRITICAL).powf(EXPONENT) / EXPONENT).exp();
+    std::array::from_fn(|density| (free_speed * fall(density as f64)) as u32)
+}
+
+fn setting(place: usize) -> Setting {
+    match place / 4 % 3 {
+        0 => Setting::Open,
+        1 => Setting::Alinea(Alinea {
+            target: 30,
+            gain: 200,
+            least: 500,
+            interval: 6,
+        }),
+        _ => Setting::Fixed(2_000),
+    }
+}

@@ -1,0 +1,92 @@
+//! One segment's row: N, w, limit, compliance + 500, setting code, R, target,
+//! gain, least, z, last outflow, last release and four free words.
+
+use super::MOST_MV;
+use crate::book::rows::{judge_meter, judge_sign};
+use crate::case::{Alinea, SegmentState, Setting, Sign};
+use crate::network::Network;
+
+const OPEN: u64 = 0;
+const FIXED: u64 = 1;
+const ALINEA: u64 = 2;
+
+/// The state of segment `place` (from 0), or nothing where it is not sound.
+pub fn state(network: &Network, place: usize, row: &[u64], speed: f64) -> Option<SegmentState> {
+    let segment = &network.segments[place];
+    let most = u64::from(segment.most_released);
+    let free_speed = f64::from(network.free_speed(segment));
+    let state = SegmentState {
+        count: row[0],
+        speed,
+        queue: row[1],
+        sign: sign(row[2], row[3])?,
+        setting: setting(row)?,
+        rate: row[5],
+        last_outflow: row[10],
+        last_release: row[11],
+    };
+    let sound = figures_sound(&state)
+        && (1_000.0..=free_speed).contains(&speed)
+        && setting_sound(network, place, state.setting)
+        && rate_sound(state.setting, state.rate, most);
+    sound.then_some(state)
+}
+
+/// Puts what a step changes into the row.
+pub fn put(state: &SegmentState, row: &mut [u64]) {
+    row[0] = state.count;
+    row[1] = state.queue;
+    row[5] = state.rate;
+    row[10] = state.last_outflow;
+    row[11] = state.last_release;
+}
+
+fn figures_sound(state: &SegmentState) -> bool {
+    let figures = [
+        state.count,
+        state.queue,
+        state.last_outflow,
+        state.last_release,
+    ];
+    figures.iter().all(|&figure| figure <= MOST_MV)
+}
+
+/// A dark sign keeps no compliance; a shown one is as its call permits.
+fn sign(limit: u64, raised: u64) -> Option<Sign> {
+    if limit == 0 {
+        return (raised == 0).then_some(Sign::Dark);
+    }
+    let compliance = i64::try_from(raised).ok()? - 500;
+    judge_sign(limit, compliance).ok()?;
+    Some(Sign::Shown { limit, compliance })
+}
+
+/// Words that a setting does not use are 0.
+fn setting(row: &[u64]) -> Option<Setting> {
+    let unused = row[6..10].iter().all(|&word| word == 0);
+    match row[4] {
+        OPEN if unused => Some(Setting::Open),
+        FIXED if unused => Some(Setting::Fixed(row[5])),
+        ALINEA => Some(Setting::Alinea(Alinea {
+            target: row[6],
+            gain: row[7],
+            least: row[8],
+            interval: row[9],
+        })),
+        _ => None,
+    }
+}
+
+/// Every ramp may be open; other settings are as their call permits.
+fn setting_sound(network: &Network, place: usize, setting: Setting) -> bool {
+    setting == Setting::Open || judge_meter(network, place, setting).is_ok()
+}
+
+/// R of a ramp that releases at most `most` mv per step.
+fn rate_sound(setting: Setting, rate: u64, most: u64) -> bool {
+    match setting {
+        Setting::Open => rate == most,
+        Setting::Fixed(fixed) => rate == fixed,
+        Setting::Alinea(alinea) => (alinea.least..=most).contains(&rate),
+    }
+}

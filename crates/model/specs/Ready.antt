@@ -53,9 +53,13 @@ pub record RowOk (s : Segment) (f : ℕ) (r : Row) : Type 0 where
   pub low : T (le (real 1000) (r .speed))
   pub high : T (le (r .speed) (real f))
 
+-- the network in the first 2,560 words is within rows 4, 6, 7 and 8
+abbrev pub NetworkOk : List ℕ → Type 0
+NetworkOk words = RowsWithin (headIn (netOf words)) (entryIn (netOf words)) (segmentIn (netOf words))
+
 -- a case of n segments at at and from, on the network in the first 2,560 words, whose size n is
 pub record CaseAt (words : List ℕ) (speeds : List Float) (at from n : ℕ) : Type 0 where
-  pub net : RowsWithin (headIn (netOf words)) (entryIn (netOf words)) (segmentIn (netOf words))
+  pub net : NetworkOk words
   pub size : n ≡ headIn (netOf words) .size
   pub past : 2560 ≤ at
   pub room : at + 16 * n + 8 ≤ length words
@@ -63,7 +67,7 @@ pub record CaseAt (words : List ℕ) (speeds : List Float) (at from n : ℕ) : T
 
 -- the whole step: the network in the first 2,560 words, n its size, a case at at and from, n arrivals
 pub record Ready (words : List ℕ) (speeds : List Float) (ds : List ℕ) (at from n : ℕ) : Type 0 where
-  pub net : RowsWithin (headIn (netOf words)) (entryIn (netOf words)) (segmentIn (netOf words))
+  pub net : NetworkOk words
   pub size : n ≡ headIn (netOf words) .size
   pub past : 2560 ≤ at
   pub room : at + 16 * n ≤ length words
@@ -100,7 +104,7 @@ freshIn net rest v d i n t passed before =
     })
 
 pub record FreshOk (words : List ℕ) (a : ℕ) (v : Float) (d i n pass : ℕ) : Type 0 where
-  pub net : RowsWithin (headIn (netOf words)) (entryIn (netOf words)) (segmentIn (netOf words))
+  pub net : NetworkOk words
   pub size : n ≡ headIn (netOf words) .size
   pub long : 2560 ≤ length words
   pub more : i < n

@@ -4,14 +4,12 @@ use mathlib.Core.Path.{_≡_}
 use mathlib.Core.List.{List}
 use lib.ListN.{length}
 use lib.Ieee.{Float}
-use Rattle.network.specs.Accepted.{RowsWithin}
-use Rattle.network.specs.Words.{headIn, entryIn, segmentIn}
-use Rattle.model.specs.Words.{netOf}
+use Rattle.model.specs.Ready.{NetworkOk}
 use Rattle.study.specs.Arrangement.{wordsFor, speedsFor, sizeAt}
 
 -- the network is within rows 4, 6, 7 and 8, n is its size, and the arrays are long enough
 pub record Laid (words : List ℕ) (speeds : List Float) (n : ℕ) : Type 0 where
-  pub net : RowsWithin (headIn (netOf words)) (entryIn (netOf words)) (segmentIn (netOf words))
+  pub net : NetworkOk words
   pub size : n ≡ sizeAt words
   pub room : wordsFor n ≤ length words
   pub lane : speedsFor n ≤ length speeds

@@ -62,28 +62,11 @@ pub const DAMAGES: &[Damage<Single>] = &[
     later("gain of a fixed ramp", fixed_word::<GAIN>),
     later("least of a fixed ramp", fixed_word::<LEAST>),
     later("z of a fixed ramp", fixed_word::<INTERVAL>),
-    later("target", |single, place, random| {
-        set(single, place, random, alinea);
-        spoil(single, place, TARGET, 1, 199, random)
-    }),
-    later("gain", |single, place, random| {
-        set(single, place, random, alinea);
-        spoil(single, place, GAIN, 1, 60_000, random)
-    }),
-    later("least above Q", |single, place, random| {
-        set(single, place, random, alinea);
-        let most = most_released(single, place);
-        spoil(single, place, LEAST, 0, most, random)
-    }),
-    later("z", |single, place, random| {
-        set(single, place, random, alinea);
-        spoil(single, place, INTERVAL, 1, 60, random)
-    }),
-    later("R above Q", |single, place, random| {
-        set(single, place, random, alinea);
-        let most = most_released(single, place);
-        spoil(single, place, RATE, 0, most, random)
-    }),
+    later("target", alinea_word::<TARGET, 1, 199>),
+    later("gain", alinea_word::<GAIN, 1, 60_000>),
+    later("least above Q", alinea_above_most::<LEAST>),
+    later("z", alinea_word::<INTERVAL, 1, 60>),
+    later("R above Q", alinea_above_most::<RATE>),
     later("R below the least", |single, place, random| {
         set(single, place, random, alinea);
         let least = random.edge(1, most_released(single, place));
@@ -110,4 +93,21 @@ fn open_word<const WORD: usize>(single: &mut Single, place: usize, random: &mut 
 fn fixed_word<const WORD: usize>(single: &mut Single, place: usize, random: &mut Random) {
     set(single, place, random, fixed);
     unused_word::<WORD>(single, place, random);
+}
+
+/// A word of ALINEA outside LOW..HIGH.
+fn alinea_word<const WORD: usize, const LOW: u64, const HIGH: u64>(
+    single: &mut Single,
+    place: usize,
+    random: &mut Random,
+) {
+    set(single, place, random, alinea);
+    spoil(single, place, WORD, LOW, HIGH, random);
+}
+
+/// A word of ALINEA above the segment's Q.
+fn alinea_above_most<const WORD: usize>(single: &mut Single, place: usize, random: &mut Random) {
+    set(single, place, random, alinea);
+    let most = most_released(single, place);
+    spoil(single, place, WORD, 0, most, random);
 }

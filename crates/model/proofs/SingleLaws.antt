@@ -8,16 +8,15 @@ use native.Mathlib.Nat.{le-of-eq}
 use lib.Dec.{ltb}
 use lib.ListN.{length, getD, length-take}
 use lib.Ieee.{Float}
-use borrow.Author.Tests.{lt-ltb, le-ltb, ltb-false, eqb-true, not-false}
+use borrow.Author.Tests.{lt-ltb, le-ltb, ltb-false}
 use Rattle.laws.specs.First.{row, first}
-use Rattle.laws.proofs.First.{row-applies, row-skipped, row-passed, row-later, first-some, first-zero, first-zero-left, first-zero-right, firstOf-zero, when-accepted, when-refused}
-use Rattle.laws.proofs.Tests.{or-left}
+use Rattle.laws.proofs.First.{row-applies, row-skipped, row-passed, row-later, first-some, first-zero, first-zero-left, first-zero-right, when-accepted, when-refused}
 use Rattle.network.specs.Words.{headIn, entryIn, segmentIn, keptNumber}
 use Rattle.network.proofs.Keeping.{kept-within}
 use Rattle.model.specs.Words.{netOf, caseIn, stepCaseWords, stepCaseSpeeds}
 use Rattle.model.specs.Ready.{Ready, CaseAt, TotalsOk}
-use Rattle.model.specs.Sound.{caseNumber, arrivalNumber, stepNumber, singleSize, singleCase, singleNumber, singleWords, singleSpeeds}
-use Rattle.model.proofs.SoundLaws.{case-row, case-total}
+use Rattle.model.specs.Sound.{caseNumber, stepNumber, singleSize, singleCase, singleNumber, singleWords, singleSpeeds}
+use Rattle.model.proofs.SoundLaws.{case-total, case-ready}
 
 module _ (words : List ℕ) (speeds : List Float) (ds : List ℕ) where
   abbrev net : List ℕ
@@ -91,31 +90,11 @@ module _ (words : List ℕ) (speeds : List Float) (ds : List ℕ) where
     step-zero : stepRow ≡ 0
     step-zero = first-zero-right caseRow _ both
 
-    many : length ds ≡ singleSize words
-    unfolding stepNumber
-    many = eqb-true _ _ (not-false _ (row-passed _ _ _ step-zero))
-
-    arrival : (i : ℕ) → i < singleSize words → getD ds i 0 ≤ 1000000
-    unfolding stepNumber arrivalNumber
-    arrival i l =
-        let all = firstOf-zero (arrivalNumber (headIn net) (entryIn net) (segmentIn net) ds) _ (first-zero-left _ _ (row-later _ _ _ step-zero)) i l in
-        ltb-false _ _ (or-left (ltb 1000000 (getD ds i 0)) _ (row-passed _ _ _ all))
-
     pub single-long : 2560 ≤ length words
     single-long = omega (arith, words-room)
 
     pub single-ready : Ready words speeds ds 2560 0 (singleSize words)
-    single-ready =
-        record {
-          net = place .net;
-          size = refl;
-          past = omega arith;
-          room = omega (arith, words-room);
-          lane = place .lane;
-          arrivals = many;
-          row = case-row place (first-zero-left _ _ both);
-          arrival = arrival;
-        }
+    single-ready = case-ready place (first-zero-left _ _ both) (getD words (2560 + 16 * singleSize words) 0) ds step-zero
 
     pub single-totals : TotalsOk words (2560 + 16 * singleSize words)
     single-totals = case-total place (first-zero-left _ _ both)

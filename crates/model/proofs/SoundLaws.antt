@@ -7,13 +7,13 @@ use native.Mathlib.Omega.{arith}
 use native.Mathlib.Nat.{add-zero, le-of-eq}
 use lib.Seq.{getD-drop}
 use lib.Dec.{T, ltb, eqb}
-use lib.ListN.{getD}
+use lib.ListN.{length, getD}
 use lib.Ieee.{Float, le}
 use borrow.Author.Tests.{ltb-false, eqb-true, not-false}
 use Rattle.laws.specs.First.{outside, row, first}
 use Rattle.laws.specs.Real.{real}
 use Rattle.laws.specs.Sums.{sumOf}
-use Rattle.laws.proofs.First.{row-passed, first-some, first-zero, first-zero-left, first-zero-right, firstOf-zero}
+use Rattle.laws.proofs.First.{row-passed, row-later, first-some, first-zero, first-zero-left, first-zero-right, firstOf-zero}
 use Rattle.laws.specs.First.{firstOf}
 use Rattle.laws.proofs.Sums.{sum-ext}
 use Rattle.laws.proofs.Lists.{getD-table}
@@ -24,9 +24,9 @@ use Rattle.model.specs.declared.Row.{Row}
 use Rattle.model.specs.Case.{noRow, rowOf, alineaKind}
 use Rattle.model.specs.Step.{vehiclesIn, freeSpeed, merges}
 use Rattle.model.specs.Words.{netOf, rowIn, rowAt, rowsIn, caseIn}
-use Rattle.model.specs.Ready.{RowOk, CaseAt, TotalsOk, vehiclesAt}
+use Rattle.model.specs.Ready.{RowOk, CaseAt, Ready, TotalsOk, vehiclesAt}
 use Rattle.model.proofs.SegmentLaws.{segment-ok}
-use Rattle.model.specs.Sound.{signBad, hasAlinea, openBad, fixedBad, alineaBad, settingBad, speedBad, rowBad, totalsBad, rowNumber, caseNumber}
+use Rattle.model.specs.Sound.{signBad, hasAlinea, openBad, fixedBad, alineaBad, settingBad, speedBad, rowBad, totalsBad, rowNumber, caseNumber, arrivalNumber, stepNumber}
 
 pub row-read : (words : List ℕ) (speeds : List Float) (at from n i : ℕ) → i < n → rowOf (rowsIn words speeds at from n) i ≡ rowAt words speeds at from i
 unfolding rowsIn
@@ -198,3 +198,28 @@ module _ {words : List ℕ} {speeds : List Float} {at from n : ℕ} (at-place : 
 
     pub case-total : TotalsOk words (at + 16 * n)
     case-total = totals-sound rows-zero (first-zero-right inRows _ (sym number-is ∙ z))
+
+    -- and with arrivals that no row refuses, a step of it can be made
+    module _ (steps : ℕ) (ds : List ℕ) (q : stepNumber (headIn net) (entryIn net) (segmentIn net) steps ds ≡ 0) where
+      many : length ds ≡ n
+      unfolding stepNumber
+      many = eqb-true _ _ (not-false _ (row-passed _ _ _ q)) ∙ sym (at-place .size)
+
+      arrival : (i : ℕ) → i < n → getD ds i 0 ≤ 1000000
+      unfolding stepNumber arrivalNumber
+      arrival i l =
+          let all = firstOf-zero (arrivalNumber (headIn net) (entryIn net) (segmentIn net) ds) _ (first-zero-left _ _ (row-later _ _ _ q)) i (omega (arith, at-place .size)) in
+          ltb-false _ _ (or-left (ltb 1000000 (getD ds i 0)) _ (row-passed _ _ _ all))
+
+      pub case-ready : Ready words speeds ds at from n
+      case-ready =
+          record {
+            net = at-place .net;
+            size = at-place .size;
+            past = at-place .past;
+            room = omega (arith, at-place .room);
+            lane = at-place .lane;
+            arrivals = many;
+            row = case-row;
+            arrival = arrival;
+          }

@@ -9,10 +9,11 @@ mod arrivals; // arrivals.rt: the rows that judge a step
 mod single; // single.rt: a network and one case alone in the arrays
 
 ghost use mathlib.Core.Path.{_≡_};
-ghost use Prim.Native.Nat.{_+_, _*_};
+ghost use Prim.Native.Nat.{_+_, _*_, _≤_};
+ghost use Rattle.network.specs.Words.{headIn};
 ghost use Rattle.model.specs.Words.{stepCaseWords, stepCaseSpeeds};
 ghost use Rattle.model.specs.Ready.{CaseAt, Ready, TotalsOk};
-ghost use Rattle.model.specs.Sound.{caseNumberIn, singleNumber, singleWords, singleSpeeds};
+ghost use Rattle.model.specs.Sound.{caseNumberIn, stepNumberIn, singleNumber, singleWords, singleSpeeds};
 
 // A segment's part of a case: N and queue w in mv; the sign's limit in km/h, 0 where it is dark, and compliance in thousandths with
 // 500 added, 0 where it is dark; the setting's kind (0 open, 1 fixed, 2 ALINEA), rate R in mv a step, target in veh/km/lane, gain
@@ -90,6 +91,15 @@ pub fn case_number(words: &[u64], speeds: &[f64], at: usize, from: usize, n: usi
     ensures { λ r. ⌜ r ≡ caseNumberIn (now (words .entry)) (now (speeds .entry)) at from n ⌝ }
 {
     sound::case_number(words, speeds, at, from, n)
+}
+
+// The number that refuses a step: 13, 15, or 16 of a case that has taken this many steps; or 0. The caller has judged the network that
+// these words keep, whose number of segments n is.
+pub fn step_number(net: &[u64], arrivals: &[u32], n: usize, steps: u64) -> u64
+    requires { ⌜ (n ≤ 40) × (n ≡ headIn (now net) .size) ⌝ }
+    ensures { λ r. ⌜ r ≡ stepNumberIn (now (net .entry)) steps (now (arrivals .entry)) ⌝ }
+{
+    arrivals::step_number(net, arrivals, n, steps)
 }
 
 // One step of a network and one case that stand alone in arrays of any content: the network in the first 2,560 words, then the case's

@@ -1,1 +1,3 @@
 pub mod Judging
+pub mod Sounds
+pub mod Performing

@@ -76,4 +76,4 @@ module _ (words : List ℕ) (speeds : List Float) (s : sound words speeds ≡ tr
   -- the case that a report may ask for
   pub case-sound : (k : ℕ) → (eqb k 0 || filledAt words k) ≡ true → placeNumber words speeds k ≡ 0
   case-sound zero e = live-sound
-  case-sound (suc j) e = slot-sound (suc j) e
+  case-sound (suc j) e = slot-sound (suc j) ((λ i. sym (ne-eqb (suc j) 0 (λ z. omega (arith, z))) i || filledAt words (suc j)) ∙ e)

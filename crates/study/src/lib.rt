@@ -8,7 +8,12 @@ ghost use Rattle.study.specs.Sound.{sound};
 pub enum Setting {
     Open,
     Fixed(u64),
-    Alinea { target: u64, gain: u64, least: u64, interval: u64 },
+    Alinea {
+        target: u64,
+        gain: u64,
+        least: u64,
+        interval: u64,
+    },
 }
 
 // What a call that changes the study answers.

@@ -40,6 +40,60 @@ uint64_t network_write(const uint64_t *kept, size_t kept_len, uint8_t *out, size
 uint64_t case_step(uint64_t *words, size_t words_len, double *speeds, size_t speeds_len, const uint32_t *arrivals,
                    size_t arrivals_len);
 
+/* ---- A study
+ *
+ * The caller lends two arrays, words and speeds, and lends the same two to every later call: at least
+ * 2,576 + 7 * (16 n + 8) words and 7 n speeds for n segments. What stands in them is docs/ARRANGEMENT.md's; words and
+ * speeds past these lengths are never changed. Segments count from 1. Case 0 is the live case, 1 to 6 are the slots.
+ * Every call but study_start first answers 12 where the arrays do not hold a sound study. */
+
+/* 12 where the arrays do not hold a sound study, or 0. */
+uint64_t study_sound(const uint64_t *words, size_t words_len, const double *speeds, size_t speeds_len);
+
+/* Begins a study on a network file: for each segment initial mv, speed in whole m/h and queue in mv. All ramps are open,
+ * signs dark, slots empty. The file's number 1 to 8; 11 arrays too short; 13 a list's length; 14 a value out of range. */
+uint64_t study_start(uint64_t *words, size_t words_len, double *speeds, size_t speeds_len, const uint8_t *file,
+                     size_t file_len, const uint32_t *mvs, size_t mvs_len, const uint32_t *starts, size_t starts_len,
+                     const uint32_t *queues, size_t queues_len);
+
+/* The sign of a segment of the live case: limit in km/h, 0 is dark; compliance in thousandths. 12, 17, 18. */
+uint64_t study_sign(uint64_t *words, size_t words_len, const double *speeds, size_t speeds_len, uint64_t segment,
+                    uint64_t limit, int64_t compliance);
+
+/* The setting of a segment's ramp in the live case: open; fixed at a rate in mv a step; ALINEA with target in veh/km/lane,
+ * gain and least in mv, interval in steps. 12, 17, 19, 20. */
+uint64_t study_meter_open(uint64_t *words, size_t words_len, const double *speeds, size_t speeds_len, uint64_t segment);
+uint64_t study_meter_fixed(uint64_t *words, size_t words_len, const double *speeds, size_t speeds_len, uint64_t segment,
+                           uint64_t rate);
+uint64_t study_meter_alinea(uint64_t *words, size_t words_len, const double *speeds, size_t speeds_len,
+                            uint64_t segment, uint64_t target, uint64_t gain, uint64_t least, uint64_t interval);
+
+/* One step of the live case with the arrivals of each segment in mv. 12, 13, 15, 16. */
+uint64_t study_step(uint64_t *words, size_t words_len, double *speeds, size_t speeds_len, const uint32_t *arrivals,
+                    size_t arrivals_len);
+
+/* Copies the live case into a slot, 1 to 6: 12, 21, 22. Copies a slot's case over the live one: 12, 21, 23. Empties a
+ * slot: 12, 21, 23. */
+uint64_t study_hold(uint64_t *words, size_t words_len, double *speeds, size_t speeds_len, uint64_t slot);
+uint64_t study_recall(uint64_t *words, size_t words_len, double *speeds, size_t speeds_len, uint64_t slot);
+uint64_t study_drop(uint64_t *words, size_t words_len, const double *speeds, size_t speeds_len, uint64_t slot);
+
+/* Reports write their figures from figures[0] on; later words stay; 24, after all other refusals, where figures_len is
+ * too small. Of a case, 6 figures: steps, mv in segments, mv in queues, arrivals, exits, time in mv*s. 12, 21, 23. Of a
+ * segment of a case, 7: N, whole part of v, bits of v, queue, last outflow, last release, R. 12, 21, 23, 17. The run
+ * count, 1 figure: steps accepted since the start. 12. */
+uint64_t study_report(const uint64_t *words, size_t words_len, const double *speeds, size_t speeds_len,
+                      uint64_t study_case, uint64_t *figures, size_t figures_len);
+uint64_t study_report_segment(const uint64_t *words, size_t words_len, const double *speeds, size_t speeds_len,
+                              uint64_t study_case, uint64_t segment, uint64_t *figures, size_t figures_len);
+uint64_t study_run_count(const uint64_t *words, size_t words_len, const double *speeds, size_t speeds_len,
+                         uint64_t *figures, size_t figures_len);
+
+/* The study's network as a file, from out[0] on; later bytes stay. The file's length is 16 + 804 * out[7] + 16 * out[6].
+ * 12; 24 where out is shorter than the file. */
+uint64_t study_write(const uint64_t *words, size_t words_len, const double *speeds, size_t speeds_len, uint8_t *out,
+                     size_t out_len);
+
 #ifdef __cplusplus
 }
 #endif

@@ -1,13 +1,15 @@
--- A network kept in 2,560 words, a word a number (docs/ARRANGEMENT.md), and the file written from it.
-use Prim.Native.Nat.{ℕ, _+_, _*_}
-use mathlib.Core.List.{List, _++_}
-use lib.ListN.{length, getD, drop}
+-- A network kept in 2,560 words, a word a number (docs/ARRANGEMENT.md): how a file's network is kept, and the file written from it.
+use Prim.Native.Nat.{ℕ, _+_, _-_, _*_}
+use mathlib.Core.Bool.{_||_}
+use mathlib.Core.List.{List, _∷_, _++_}
+use lib.ListN.{length, getD, drop, replicate}
 use lib.Dec.{ltb}
 use Rattle.laws.specs.First.{row, first, ifAccepted}
+use Rattle.laws.specs.Lists.{table, parts}
 use Rattle.network.specs.declared.Head.{Head}
 use Rattle.network.specs.declared.Segment.{Segment}
-use Rattle.network.specs.Network.{Network, networkFrom, rowsNumber}
-use Rattle.network.specs.File.{fileSize}
+use Rattle.network.specs.Network.{Network, networkFrom, entryOf, segmentOf, rowsNumber}
+use Rattle.network.specs.File.{headOf, networkOf, fileSize}
 use Rattle.network.specs.Written.{fileOf}
 
 -- ---- places; curves, entries and segments are counted from 0
@@ -70,3 +72,31 @@ writeNumber ws out = first (keptNumber ws) (row (ltb (length out) (fileSize (hea
 
 unfoldable pub writeBytes : List ℕ → List ℕ → List ℕ
 writeBytes ws out = ifAccepted (writeNumber ws out) (fileOf (networkIn ws) ++ drop (fileSize (headIn ws)) out) out
+
+-- ---- Start: the network of a file into the words; later words stay
+
+-- the head's 16 words; those that are free are 0
+unfoldable pub headWords : Head → List ℕ
+headWords h =
+    h .step ∷ h .size ∷ h .curves ∷ h .tau ∷ h .nu ∷ h .kappa ∷ h .delta
+    ∷ replicate 9 0
+
+-- a segment's 16 words
+unfoldable pub segmentWords : Segment → List ℕ
+segmentWords s =
+    s .metres ∷ s .lanes ∷ s .curve ∷ s .critical ∷ s .jam ∷ s .origin ∷ s .exit ∷ s .most
+    ∷ replicate 8 0
+
+-- head; then c curves, each 201 entries, and 0 up to word 1,624; then n segments, and 0 up to word 2,560
+unfoldable pub keptWords : Network → List ℕ
+keptWords w =
+    headWords (w .head)
+    ++ (parts (λ k. table (entryOf w k) 201) (w .head .curves) ++ (replicate (1608 - 201 * w .head .curves) 0
+    ++ (parts (λ i. segmentWords (segmentOf w i)) (w .head .size) ++ replicate (936 - 16 * w .head .size) 0)))
+
+-- 4 no room for the curves or the segments that the head says; 11 arrays too short
+unfoldable pub keepNumber : List ℕ → List ℕ → ℕ
+keepNumber b ws = row (ltb 8 (headOf b .curves) || ltb 40 (headOf b .size)) 4 (row (ltb (length ws) networkWords) 11 0)
+
+unfoldable pub keepWords : List ℕ → List ℕ → List ℕ
+keepWords b ws = ifAccepted (keepNumber b ws) (keptWords (networkOf b) ++ drop networkWords ws) ws

@@ -6,4 +6,6 @@ pub mod RoundTrip
 pub mod Writing
 pub mod Reading
 pub mod Keeping
+pub mod Kept
+pub mod KeepCall
 pub mod Marked

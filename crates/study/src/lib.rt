@@ -1,5 +1,6 @@
 // A study in the lent words and speeds: its network, run count and marks, its live case and six slots.
 mod judge; // judge.rt: whether a study is sound
+mod begin; // begin.rt: Start
 mod refuse; // refuse.rt: the number that refuses a call
 
 ghost use mathlib.Core.Path.{_≡_};

@@ -1,0 +1,80 @@
+-- Start: which row refuses it.
+use Prim.Native.Nat.{ℕ, _+_, _*_, _≤_, _<_}
+use mathlib.Core.Path.{_≡_, refl, sym, ap, _∙_, subst}
+use mathlib.Core.Bool.{Bool, true, false, _||_, not}
+use mathlib.Core.List.{List, [], _∷_}
+use native.Mathlib.Omega.{arith}
+use lib.Dec.{ltb, eqb, lit<}
+use lib.ListN.{length, getD}
+use lib.Ieee.{Float}
+use borrow.Author.Tests.{eqb-true, not-false}
+use Rattle.laws.specs.First.{anyOf, row, first, firstOf}
+use Rattle.laws.proofs.First.{row-applies, row-skipped, first-some, first-zero, firstOf-ext}
+use Rattle.network.specs.declared.Segment.{Segment}
+use Rattle.network.specs.Network.{networkFrom, entryOf, segmentOf}
+use Rattle.network.specs.File.{headOf, segmentOn, entryOn, networkOf, fileNumber}
+use Rattle.network.specs.Accepted.{SegmentWithin}
+use Rattle.network.proofs.From.{from-segment, from-entry}
+use Rattle.network.proofs.File.{network-within}
+use Rattle.study.specs.Arrangement.{wordsFor, speedsFor}
+use Rattle.study.specs.Calls.{start}
+use Rattle.study.specs.Start.{startSegmentNumber, startNumber}
+use Rattle.study.specs.Refusal.{refusal}
+use Rattle.study.specs.Perform.{lent, refusalAt, groundsAt}
+use Rattle.study.specs.Ready.{startNumberOn, Listed}
+
+module _ (b : List ℕ) (z : fileNumber b ≡ 0) where
+  same-segment : (i : ℕ) → i < headOf b .size → segmentOf (networkOf b) i ≡ segmentOn b i
+  same-segment i l = from-segment (headOf b) (entryOn b) (segmentOn b) i l
+
+  -- a segment of an accepted file
+  pub segment-on : (i : ℕ) → i < headOf b .size → SegmentWithin (headOf b) i (segmentOn b i)
+  segment-on i l = subst (λ (s : Segment). SegmentWithin (headOf b) i s) (same-segment i l) (network-within b z .each i l)
+
+  pub size-high : headOf b .size ≤ 40
+  size-high = network-within b z .head .size-high
+
+  module _ (mvs speeds queues : List ℕ) where
+    same-number : (i : ℕ) → i < headOf b .size
+        → startSegmentNumber (segmentOf (networkOf b) i) (entryOf (networkOf b) (segmentOf (networkOf b) i .curve) 0) (getD mvs i 0) (getD speeds i 0) (getD queues i 0)
+        ≡ startNumberOn b mvs speeds queues i
+    same-number i l =
+        ap (λ (s : Segment). startSegmentNumber s (entryOf (networkOf b) (s .curve) 0) (getD mvs i 0) (getD speeds i 0) (getD queues i 0)) (same-segment i l)
+        ∙ ap (λ (F : ℕ). startSegmentNumber (segmentOn b i) F (getD mvs i 0) (getD speeds i 0) (getD queues i 0))
+        (from-entry (headOf b) (entryOn b) (segmentOn b) (segmentOn b i .curve) 0 (segment-on i l .curve-high) (lit< tt))
+
+    abbrev pub uneven : Bool
+    uneven = anyOf (not (eqb (length mvs) (headOf b .size)) ∷ not (eqb (length speeds) (headOf b .size)) ∷ not (eqb (length queues) (headOf b .size)) ∷ [])
+
+    lists-are : startNumber (networkOf b) mvs speeds queues ≡ row uneven 13 (firstOf (startNumberOn b mvs speeds queues) (headOf b .size))
+    unfolding startNumber networkFrom
+    lists-are = ap (row uneven 13) (firstOf-ext _ (startNumberOn b mvs speeds queues) (headOf b .size) same-number)
+
+-- ---- the number of the call
+module _ (words : List ℕ) (paces : List Float) (b mvs speeds queues : List ℕ) where
+  abbrev number : ℕ
+  number = refusalAt (start b mvs speeds queues) (lent words paces)
+
+  abbrev pub short : Bool
+  short = ltb (length words) (wordsFor (headOf b .size)) || ltb (length paces) (speedsFor (headOf b .size))
+
+  number-is : number ≡ first (fileNumber b) (row short 11 (startNumber (networkOf b) mvs speeds queues))
+  unfolding refusalAt refusal networkFrom
+  number-is = row-skipped _ _ _ refl
+
+  pub file-refused : {r : ℕ} → r ≡ fileNumber b → (r ≡ 0 → ⊥) → r ≡ number
+  file-refused e some = e ∙ sym (number-is ∙ first-some _ _ (λ z. some (e ∙ z)))
+
+  module _ (z : fileNumber b ≡ 0) where
+    pub arrays-short : short ≡ true → 11 ≡ number
+    arrays-short s = sym (number-is ∙ first-zero _ _ z ∙ row-applies _ _ _ s)
+
+    module _ (s : short ≡ false) where
+      lists-number : number ≡ row (uneven b z mvs speeds queues) 13 (firstOf (startNumberOn b mvs speeds queues) (headOf b .size))
+      lists-number = number-is ∙ first-zero _ _ z ∙ row-skipped _ _ _ s ∙ lists-are b z mvs speeds queues
+
+      pub lists-uneven : uneven b z mvs speeds queues ≡ true → 13 ≡ number
+      lists-uneven u = sym (lists-number ∙ row-applies _ _ _ u)
+
+      pub segments-judged : {r : ℕ} → uneven b z mvs speeds queues ≡ false → r ≡ firstOf (startNumberOn b mvs speeds queues) (headOf b .size) → r ≡ number
+      segments-judged u e = e ∙ sym (lists-number ∙ row-skipped _ _ _ u)

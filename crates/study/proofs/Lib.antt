@@ -4,3 +4,4 @@ pub mod Performing
 pub mod Good
 pub mod Rel
 pub mod History
+pub mod Views

@@ -1,7 +1,7 @@
 -- Demand 3, of every list of calls that begins with an accepted Start, on arrays of any content.
-use Prim.Native.Nat.{ℕ, zero, suc, _+_, _≤_}
-use mathlib.Core.Path.{_≡_, refl, sym, ap, _∙_, subst}
-use mathlib.Core.Bool.{Bool, true, false, _&&_, _||_, not}
+use Prim.Native.Nat.{ℕ, _≤_}
+use mathlib.Core.Path.{_≡_, refl, sym, _∙_, subst}
+use mathlib.Core.Bool.{Bool, true, _||_, not}
 use mathlib.Core.List.{List, [], _∷_, _++_, append-assoc, append-nil}
 use lib.Dec.{leb}
 use lib.ListN.{length}
@@ -11,17 +11,18 @@ use Rattle.laws.specs.First.{row}
 use Rattle.network.specs.File.{networkOf}
 use Rattle.model.specs.Step.{totalOf}
 use Rattle.study.specs.Arrangement.{caseAt}
-use Rattle.study.specs.Calls.{Call, start, Answer, accepted}
+use Rattle.study.specs.Calls.{Call, start, accepted}
 use Rattle.study.specs.Start.{startCase}
 use Rattle.study.specs.Refusal.{refusal}
-use Rattle.study.specs.Perform.{Arrays, Outcome, unless, groundsAt, refusalAt, answerOf, perform}
-use Rattle.study.specs.Book.{Line, Book, exitsOf, arrivalsOf, started, entered, groundsIn, enter}
-use Rattle.study.specs.Claim.{Entry, kind, isStart, sizesWithin, after, answers, history, bookAfter, bookAnswers, handed, Balanced, Since, Holds, Agrees, Demand3}
+use Rattle.study.specs.Perform.{Arrays, unless, groundsAt, refusalAt, answerOf, perform}
+use Rattle.study.specs.Book.{Line, Book, started, entered, groundsIn, enter}
+use Rattle.study.specs.Claim.{Entry, kind, isStart, sizesWithin, after, answers, history, bookAfter, bookAnswers, handed, Balanced, Since, Demand3}
 use Rattle.study.proofs.Rel.{Kept, Rel}
 use Rattle.study.proofs.Views.{filled-view, sound-view}
 use Rattle.study.proofs.History.{entry, since-start, since-call}
 use Rattle.study.proofs.Stored.{stored}
-use Rattle.study.proofs.Sim.{start-store, start-rel, call-same, call-rel}
+use Rattle.study.proofs.Storing.{start-store, start-rel}
+use Rattle.study.proofs.Sim.{call-same, call-rel}
 use Rattle.study.proofs.Past.{Past, past-trans, begun-past, list-past}
 use Rattle.study.proofs.Pending.{start-total}
 
@@ -92,7 +93,7 @@ module _ (file mvs paces queues : List ℕ) (a : Arrays) (e : refusalAt (start f
   unfolding refusal
   begin-book b = no-refusal
 
-  begin-entered : (b : Book) → enter (length (a .words)) (length (a .speeds)) begin b ≡ record { state = fresh; answer = accepted }
+  pub begin-entered : (b : Book) → enter (length (a .words)) (length (a .speeds)) begin b ≡ record { state = fresh; answer = accepted }
   unfolding enter entered answerOf unless
   begin-entered b = rw (begin-book b)
 

@@ -8,12 +8,12 @@ use native.Mathlib.Omega.{arith}
 use lib.Dec.{eqb}
 use Rattle.laws.proofs.Tests.{and-left, and-right}
 use Rattle.network.specs.File.{networkOf}
-use Rattle.study.specs.Calls.{Call, start, sign, meter, step, hold, recall, dropSlot, report, reportSegment, reportRuns, Answer, refused, accepted, figures}
+use Rattle.study.specs.Calls.{Call, start, sign, meter, step, hold, recall, dropSlot, report, reportSegment, reportRuns, Answer, refused, accepted}
 use Rattle.study.specs.Start.{startCase}
 use Rattle.study.specs.Refusal.{refusal}
 use Rattle.study.specs.Perform.{Outcome, unless, answerOf}
 use Rattle.study.specs.Book.{Line, Book, isFilled, caseIn, started, entered, groundsIn, enter}
-use Rattle.study.specs.Claim.{Entry, Kind, other, kindOf, kind, kindIn, isStart, stepIn, isHold, isDrop, noStart, stepsIn, noDrop, heldIn, Since}
+use Rattle.study.specs.Claim.{Entry, other, kind, kindIn, isStart, stepIn, isHold, isDrop, noStart, stepsIn, noDrop, heldIn, Since}
 
 -- ---- a history with one more entry
 

@@ -1,25 +1,25 @@
 -- Words and speeds past the stated lengths are never changed.
 use Prim.Native.Nat.{ℕ, zero, suc, _≤_}
 use mathlib.Core.Path.{_≡_, refl, _∙_}
-use mathlib.Core.Bool.{Bool, true, false, _&&_, _||_, not}
+use mathlib.Core.Bool.{Bool, true, _||_, not}
 use mathlib.Core.List.{List, [], _∷_}
 use lib.Dec.{leb}
 use lib.ListN.{drop}
 use borrow.Author.Tests.{leb-true}
 use Rattle.laws.proofs.Tests.{and-left, and-right}
 use Rattle.network.specs.Network.{Network}
-use Rattle.network.specs.File.{networkOf}
 use Rattle.model.specs.Case.{Case}
 use Rattle.study.specs.Arrangement.{wordsFor, speedsFor, networkAt, sizeAt, runCountAt, caseAt}
 use Rattle.study.specs.Calls.{Call, start, sign, meter, step, hold, recall, dropSlot, report, reportSegment, reportRuns, Answer}
 use Rattle.study.specs.Refusal.{refusal}
-use Rattle.study.specs.Perform.{Arrays, Outcome, unless, storedWords, storedSpeeds, answerOf, perform}
-use Rattle.study.specs.Book.{Book, entered, caseIn, groundsIn, enter}
-use Rattle.study.specs.Claim.{Entry, kindOf, kind, isStart, broughtBy, sizesWithin, after, history}
+use Rattle.study.specs.Perform.{Arrays, unless, storedWords, storedSpeeds, answerOf, perform}
+use Rattle.study.specs.Book.{Book, entered, groundsIn, enter}
+use Rattle.study.specs.Claim.{kindOf, kind, isStart, broughtBy, sizesWithin, after, history}
 use Rattle.study.proofs.Rel.{Rel}
 use Rattle.study.proofs.Views.{size-view, refusal-view}
 use Rattle.study.proofs.Stored.{stored, Stored, Begun}
-use Rattle.study.proofs.Sim.{sign-store, meter-store, step-store, hold-store, recall-store, drop-store, start-store, onArrays, inBook, call-rel}
+use Rattle.study.proofs.Storing.{sign-store, meter-store, step-store, hold-store, recall-store, drop-store, start-store}
+use Rattle.study.proofs.Sim.{onArrays, inBook, call-rel}
 
 -- the arrays z and a are the same past the lengths for m segments
 pub record Past (m : ℕ) (z a : Arrays) : Type 0 where

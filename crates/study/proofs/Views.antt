@@ -1,18 +1,17 @@
 -- What arrays that hold a book show: the study is sound, and every call is refused or accepted as in the book.
 use Prim.Native.Nat.{ℕ, zero, suc, _+_, _≤_, _<_}
-use mathlib.Core.Path.{_≡_, refl, sym, ap, _∙_, fun-ext}
+use mathlib.Core.Path.{_≡_, refl, sym, ap, _∙_}
 use mathlib.Core.Bool.{Bool, true, false, _&&_, _||_, not, true≢false, false≢true}
 use mathlib.Core.List.{List}
 use mathlib.Core.Option.{Option, none, some}
 use native.Mathlib.Omega.{arith}
 use native.Mathlib.Nat.{le-of-eq}
-use native.Mathlib.Numerals.{add-one}
 use lib.Dec.{ltb, leb, eqb, lit<}
 use lib.ListN.{length, getD}
 use borrow.Author.Tests.{leb-true, le-ltb, le-leb, eq-eqb, ne-eqb}
-use Rattle.laws.specs.First.{row, first, firstOf}
+use Rattle.laws.specs.First.{row, first}
 use Rattle.laws.specs.Sums.{sumOf}
-use Rattle.laws.proofs.First.{row-skipped, row-applies, first-zero, firstOf-all, firstOf-ext}
+use Rattle.laws.proofs.First.{row-skipped, first-zero, firstOf-all, firstOf-ext}
 use Rattle.laws.proofs.Tests.{and-left, and-right}
 use Rattle.network.specs.declared.Head.{Head}
 use Rattle.network.specs.declared.Segment.{Segment}
@@ -25,13 +24,12 @@ use Rattle.model.specs.Case.{Case, rowOf}
 use Rattle.model.specs.Step.{vehiclesIn, freeSpeed, merges}
 use Rattle.model.specs.Sound.{rowBad, totalsBad, rowNumber, caseNumber, stepsMost, arrivalNumber, stepNumber}
 use Rattle.model.specs.Words.{netOf}
-use Rattle.study.specs.Arrangement.{wordsFor, speedsFor, networkAt, sizeAt, runCountAt, markAt, filledAt, caseAt}
+use Rattle.study.specs.Arrangement.{wordsFor, speedsFor, sizeAt, runCountAt, markAt, filledAt, caseAt}
 use Rattle.study.specs.Sound.{placeNumber, slotNumber, casesNumber, soundNumber, sound}
 use Rattle.study.specs.Calls.{Call}
-use Rattle.study.specs.Refusal.{Grounds, refusal}
+use Rattle.study.specs.Refusal.{refusal}
 use Rattle.study.specs.Perform.{Arrays, isStart, groundsAt, refusalAt}
-use Rattle.study.specs.Book.{Line, Book, stepsOf, isFilled, lineAt, caseOf, groundsIn}
-use Rattle.study.proofs.Good.{Good}
+use Rattle.study.specs.Book.{Line, Book, isFilled, lineAt, caseOf, groundsIn}
 use Rattle.study.proofs.Rel.{markOf, Kept, Rel}
 
 -- ---- networks that agree on what their head says is there judge a case, and a step's arrivals, alike

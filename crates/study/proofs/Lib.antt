@@ -3,3 +3,4 @@ pub mod Sounds
 pub mod Performing
 pub mod Good
 pub mod Rel
+pub mod Lines

@@ -5,3 +5,5 @@ pub mod Good
 pub mod Rel
 pub mod CaseSound
 pub mod Lines
+pub mod LineRows
+pub mod LineStep

@@ -5,10 +5,12 @@ use mathlib.Core.Path.{_≡_, refl, _∙_}
 use mathlib.Core.List.{[], _∷_, _++_}
 use lib.ListN.{length}
 use Rattle.network.specs.Network.{Network, entryOf, segmentOf}
+use Rattle.network.specs.Accepted.{RowsWithin}
+use Rattle.network.proofs.Rows.{rows-within}
 use Rattle.model.specs.Case.{Case}
 use Rattle.model.specs.Step.{totalOf}
 use Rattle.model.specs.Sound.{caseNumber}
-use Rattle.study.proofs.Good.{Good}
+use Rattle.study.proofs.Good.{GoodNetwork, Good}
 use Rattle.study.proofs.CaseSound.{SoundAt, case-sound}
 use Rattle.study.specs.Book.{Item, Line, change, caseOf, itemSteps, stepsOf, handedIn, arrivalsOf, letOut, exitsOf}
 
@@ -31,6 +33,11 @@ pub exitsOf-snoc : (w : Network) (s : Case) (l : Line) (i : Item) → exitsOf w 
 unfolding exitsOf caseOf
 exitsOf-snoc w s [] i = omega arith
 exitsOf-snoc w s (j ∷ l) i = omega (arith, exitsOf-snoc w (change w s j) l i)
+
+-- ---- a good network is within rows 4, 6, 7 and 8
+
+pub net-within : {w : Network} → GoodNetwork w → RowsWithin (w .head) (entryOf w) (segmentOf w)
+net-within {w = w} g = rows-within (w .head) (entryOf w) (segmentOf w) (g .within)
 
 -- ---- what an item makes of a case, as far as every line's record speaks of it
 

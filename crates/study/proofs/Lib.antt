@@ -7,3 +7,4 @@ pub mod CaseSound
 pub mod Lines
 pub mod LineRows
 pub mod LineStep
+pub mod LineStart

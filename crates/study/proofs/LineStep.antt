@@ -12,6 +12,7 @@ use Rattle.laws.specs.First.{row, first, firstOf}
 use Rattle.laws.specs.Sums.{sumOf}
 use Rattle.laws.proofs.First.{row-passed, row-later, first-zero-left, first-zero-right, firstOf-zero}
 use Rattle.laws.proofs.Lists.{length-table}
+use Rattle.laws.proofs.Sums.{sum-high}
 use Rattle.laws.proofs.Tests.{or-left}
 use Rattle.network.specs.declared.Head.{Head}
 use Rattle.network.specs.declared.Segment.{Segment}
@@ -30,12 +31,6 @@ use Rattle.study.proofs.Good.{Good}
 use Rattle.study.proofs.CaseSound.{RowSound, row-sound, SoundAt}
 use Rattle.study.proofs.Lines.{net-within, total-le, Changed, good-more}
 use Rattle.study.proofs.LineRows.{old-row}
-
--- a sum of n terms of at most b
-sum-high : (f : ℕ → ℕ) (b n : ℕ) → ((i : ℕ) → i < n → f i ≤ b) → sumOf f n ≤ b * n
-unfolding sumOf
-sum-high f b zero h = omega arith
-sum-high f b (suc n) h = omega (arith, sum-high f b n (λ i k. h i (omega arith)), h n (omega arith))
 
 -- ---- what the rows 15 and 16 say
 

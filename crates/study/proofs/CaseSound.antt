@@ -4,7 +4,7 @@ use mathlib.Core.Path.{_≡_, _∙_}
 use mathlib.Core.Bool.{Bool, false}
 use mathlib.Core.List.{List, [], _∷_}
 use borrow.Author.Tests.{ltb-false, le-ltb}
-use Rattle.laws.specs.First.{row, first, firstOf, anyOf}
+use Rattle.laws.specs.First.{anyOf}
 use Rattle.laws.specs.Sums.{sumOf}
 use Rattle.laws.proofs.First.{row-passed, row-skipped, first-zero, first-zero-left, firstOf-zero, firstOf-all}
 use Rattle.laws.proofs.Tests.{anyOf-false}

@@ -2,10 +2,10 @@
 use Prim.Native.Nat.{ℕ, zero, suc, _+_, _-_, _≤_, _<_}
 use native.Mathlib.Omega.{arith}
 use native.Mathlib.Nat.{suc-ne-zero}
-use mathlib.Core.Path.{_≡_, refl, sym, ap, _∙_, subst}
+use mathlib.Core.Path.{_≡_, refl, sym, ap, subst}
 use mathlib.Core.Bool.{Bool, true, false, not, _&&_, _||_}
 use mathlib.Core.List.{List, [], _∷_, _++_}
-use lib.Dec.{ltb, eqb}
+use lib.Dec.{eqb}
 use lib.IntN.{ℤ, pos, negsuc}
 use lib.ListN.{length, set, length-set}
 use lib.Seq.{getD-set-same, getD-set-other}
@@ -22,10 +22,10 @@ use Rattle.model.specs.Sound.{signBad, hasAlinea, openBad, fixedBad, alineaBad,
 use Rattle.study.specs.declared.Setting.{Setting}
 use Rattle.study.specs.declared.Setting.the-variants.{Open, Fixed, Alinea}
 use Rattle.study.specs.Change.{complianceBad, raised, signRefused, signedRow, settingRefused, meteredRow, withRow}
-use Rattle.study.specs.Book.{Item, signed, metered, Line, change, caseOf, itemSteps, stepsOf, handedIn, letOut}
+use Rattle.study.specs.Book.{Item, signed, metered, Line, change, caseOf, itemSteps, handedIn, letOut}
 use Rattle.study.proofs.Good.{Good}
 use Rattle.study.proofs.CaseSound.{RowSound, SoundAt, case-row}
-use Rattle.study.proofs.Lines.{net-within, Changed, good-more}
+use Rattle.study.proofs.Lines.{net-within, good-more}
 
 -- ---- the rows with r at place k: what holds of r there and of every row holds of every row afterwards
 

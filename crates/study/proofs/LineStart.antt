@@ -3,22 +3,19 @@ use Prim.Native.Nat.{ℕ, _+_, _*_, _≤_, _<_}
 use native.Mathlib.Nat.{mul-le-mul, le-trans}
 use native.Mathlib.Omega.{arith}
 use mathlib.Core.Path.{_≡_, refl, ap, _∙_}
-use mathlib.Core.Bool.{false, not, _&&_}
+use mathlib.Core.Bool.{not}
 use mathlib.Core.List.{List, []}
-use lib.Dec.{ltb, eqb}
-use lib.ListN.{length, getD}
-use lib.Ieee.{ofInt}
+use lib.ListN.{getD}
 use borrow.Author.Tests.{ltb-false, eq-eqb}
-use Rattle.laws.specs.First.{anyOf, outside, row}
+use Rattle.laws.specs.First.{anyOf}
 use Rattle.laws.specs.Real.{real}
-use Rattle.laws.specs.Sums.{sumOf}
 use Rattle.laws.proofs.First.{row-passed, row-later, firstOf-zero}
 use Rattle.laws.proofs.Lists.{length-table, getD-table}
 use Rattle.laws.proofs.Reals.{real-le}
 use Rattle.laws.proofs.Sums.{sum-ext, sum-high, sum-add}
 use Rattle.laws.proofs.Tests.{anyOf-false, inside-low, inside-high}
 use Rattle.network.specs.declared.Segment.{Segment}
-use Rattle.network.specs.Network.{Network, networkFrom, entryOf, segmentOf}
+use Rattle.network.specs.Network.{Network, entryOf, segmentOf}
 use Rattle.network.specs.File.{headOf, entryOn, segmentOn, fileNumber, networkOf}
 use Rattle.network.proofs.File.{network-accepted}
 use Rattle.network.proofs.From.{from-formed}
@@ -27,7 +24,7 @@ use Rattle.model.specs.Case.{Case, noRow, rowOf}
 use Rattle.model.specs.Speed.{area}
 use Rattle.model.specs.Step.{vehiclesIn, freeSpeed, totalOf}
 use Rattle.model.specs.Ready.{SegmentOk}
-use Rattle.model.specs.Sound.{signBad, hasAlinea, openBad, settingBad, speedBad, caseNumber}
+use Rattle.model.specs.Sound.{signBad, hasAlinea, openBad, settingBad}
 use Rattle.model.proofs.SegmentLaws.{segment-ok}
 use Rattle.model.proofs.Formed.{within-good}
 use Rattle.study.specs.Start.{startRow, startCase, startSegmentNumber, startNumber}

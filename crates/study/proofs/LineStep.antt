@@ -1,14 +1,13 @@
 -- A step that its call permits keeps what holds of the line.
-use Prim.Native.Nat.{ℕ, zero, suc, _+_, _*_, _≤_, _<_}
+use Prim.Native.Nat.{ℕ, _+_, _*_, _≤_, _<_}
 use native.Mathlib.Nat.{mul-le-mul}
 use native.Mathlib.Omega.{arith}
 use mathlib.Core.Path.{_≡_, refl, sym, _∙_}
-use mathlib.Core.Bool.{not, _&&_, _||_}
 use mathlib.Core.List.{List, [], _∷_, _++_}
-use lib.Dec.{ltb, leb, eqb}
-use lib.ListN.{length, getD}
+use lib.Dec.{ltb}
+use lib.ListN.{getD}
 use borrow.Author.Tests.{ltb-false, leb-false}
-use Rattle.laws.specs.First.{row, first, firstOf}
+use Rattle.laws.specs.First.{firstOf}
 use Rattle.laws.specs.Sums.{sumOf}
 use Rattle.laws.proofs.First.{row-passed, row-later, first-zero-left, first-zero-right, firstOf-zero}
 use Rattle.laws.proofs.Lists.{length-table}
@@ -21,14 +20,14 @@ use Rattle.model.specs.declared.Row.{Row}
 use Rattle.model.specs.Case.{Case, rowOf}
 use Rattle.model.specs.Step.{vehiclesIn, freeSpeed, merges, around, stepRow, stepRows, exitsNow, stepOn, totalOf}
 use Rattle.model.specs.Ready.{SegmentOk, RowOk}
-use Rattle.model.specs.Sound.{mvMost, rowBad, arrivalNumber, stepNumber}
+use Rattle.model.specs.Sound.{arrivalNumber, stepNumber}
 use Rattle.model.proofs.SegmentLaws.{segment-ok}
 use Rattle.model.proofs.SoundLaws.{row-ok}
 use Rattle.model.proofs.Formed.{sign-kept, setting-kept, speed-formed}
 use Rattle.model.proofs.Balance.{FiguresWithin, new-is, balance, figures-within}
 use Rattle.study.specs.Book.{stepped, Line, change, caseOf, stepsOf, handedIn, letOut}
 use Rattle.study.proofs.Good.{Good}
-use Rattle.study.proofs.CaseSound.{RowSound, row-sound, SoundAt}
+use Rattle.study.proofs.CaseSound.{row-sound, SoundAt}
 use Rattle.study.proofs.Lines.{net-within, total-le, Changed, good-more}
 use Rattle.study.proofs.LineRows.{old-row}
 

@@ -3,5 +3,10 @@ pub mod Sounds
 pub mod Performing
 pub mod Good
 pub mod Rel
+pub mod CaseSound
+pub mod Lines
+pub mod LineRows
+pub mod LineStep
+pub mod LineStart
 pub mod History
 pub mod Views

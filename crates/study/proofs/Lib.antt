@@ -3,3 +3,8 @@ pub mod Sounds
 pub mod Performing
 pub mod Good
 pub mod Rel
+pub mod Stored
+pub mod RowStores
+pub mod StepStore
+pub mod SlotStores
+pub mod StartStore

@@ -3,7 +3,9 @@ pub mod Sounds
 pub mod Performing
 pub mod Good
 pub mod Rel
+pub mod CaseParts
 pub mod Stored
+pub mod Places
 pub mod RowStores
 pub mod StepStore
 pub mod SlotStores

@@ -8,5 +8,12 @@ pub mod Lines
 pub mod LineRows
 pub mod LineStep
 pub mod LineStart
+pub mod CaseParts
+pub mod Stored
+pub mod Places
+pub mod RowStores
+pub mod StepStore
+pub mod SlotStores
+pub mod StartStore
 pub mod History
 pub mod Views

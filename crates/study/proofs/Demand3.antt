@@ -24,7 +24,7 @@ use Rattle.study.proofs.Stored.{stored}
 use Rattle.study.proofs.Storing.{start-store, start-rel}
 use Rattle.study.proofs.Sim.{call-same, call-rel}
 use Rattle.study.proofs.Past.{Past, past-trans, begun-past, list-past}
-use Rattle.study.proofs.Pending.{start-total}
+use Rattle.study.proofs.LineStart.{start-total}
 
 -- ---- a list of calls on arrays that hold a book
 

@@ -17,3 +17,10 @@ pub mod SlotStores
 pub mod StartStore
 pub mod History
 pub mod Views
+pub mod Moved
+pub mod Storing
+pub mod Sim
+pub mod Past
+pub mod Demand3
+pub mod Agreed
+pub mod Example

@@ -31,7 +31,11 @@ use Rattle.study.proofs.Stored.{stored, Stored, Begun}
 use Rattle.study.proofs.RowStores.{sign-stored, meter-stored}
 use Rattle.study.proofs.SlotStores.{hold-stored, recall-stored, drop-stored}
 use Rattle.study.proofs.StepStore.{step-stored}
-use Rattle.study.proofs.Pending.{start-stored, caseOf-snoc, good-start, good-sign, good-meter, good-step}
+use Rattle.study.proofs.StartStore.{start-stored}
+use Rattle.study.proofs.Lines.{caseOf-snoc}
+use Rattle.study.proofs.LineRows.{good-sign, good-meter}
+use Rattle.study.proofs.LineStep.{good-step}
+use Rattle.study.proofs.LineStart.{good-start}
 use Rattle.study.proofs.Moved.{some-inj, none-some, fit, live-rel, slot-rel}
 
 -- ---- the store of each call that the book does not refuse

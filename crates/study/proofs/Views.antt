@@ -6,24 +6,19 @@ use mathlib.Core.List.{List}
 use mathlib.Core.Option.{Option, none, some}
 use native.Mathlib.Omega.{arith}
 use native.Mathlib.Nat.{le-of-eq}
-use lib.Dec.{ltb, leb, eqb, lit<}
-use lib.ListN.{length, getD}
+use lib.Dec.{ltb, leb, eqb}
+use lib.ListN.{length}
 use borrow.Author.Tests.{leb-true, le-ltb, le-leb, eq-eqb, ne-eqb}
-use Rattle.laws.specs.First.{row, first}
-use Rattle.laws.specs.Sums.{sumOf}
-use Rattle.laws.proofs.First.{row-skipped, first-zero, firstOf-all, firstOf-ext}
+use Rattle.laws.specs.First.{row}
+use Rattle.laws.proofs.First.{row-skipped, first-zero, firstOf-all}
 use Rattle.laws.proofs.Tests.{and-left, and-right}
-use Rattle.network.specs.declared.Head.{Head}
-use Rattle.network.specs.declared.Segment.{Segment}
 use Rattle.network.specs.Network.{Network, networkFrom, entryOf, segmentOf}
-use Rattle.network.specs.Words.{headIn, entryIn, segmentIn, networkIn, keptNumber}
-use Rattle.network.proofs.From.{from-entry, from-segment}
+use Rattle.network.specs.Words.{headIn, entryIn, segmentIn, keptNumber}
 use Rattle.network.proofs.Keeping.{kept-within}
-use Rattle.model.specs.declared.Row.{Row}
-use Rattle.model.specs.Case.{Case, rowOf}
-use Rattle.model.specs.Step.{vehiclesIn, freeSpeed, merges}
-use Rattle.model.specs.Sound.{rowBad, totalsBad, rowNumber, caseNumber, stepsMost, arrivalNumber, stepNumber}
+use Rattle.model.specs.Case.{Case}
+use Rattle.model.specs.Sound.{caseNumber, stepNumber}
 use Rattle.model.specs.Words.{netOf}
+use Rattle.model.proofs.SameNetwork.{case-number-from, step-number-from}
 use Rattle.study.specs.Arrangement.{wordsFor, speedsFor, sizeAt, runCountAt, markAt, filledAt, caseAt}
 use Rattle.study.specs.Sound.{placeNumber, slotNumber, casesNumber, soundNumber, sound}
 use Rattle.study.specs.Calls.{Call}
@@ -32,64 +27,11 @@ use Rattle.study.specs.Perform.{Arrays, isStart, groundsAt, refusalAt}
 use Rattle.study.specs.Book.{Line, Book, isFilled, lineAt, caseOf, groundsIn}
 use Rattle.study.proofs.Rel.{markOf, Kept, Rel}
 
--- ---- networks that agree on what their head says is there judge a case, and a step's arrivals, alike
-
-module _ (h : Head) (e f : ℕ → ℕ → ℕ) (s u : ℕ → Segment)
-    (entries : (k j : ℕ) → k < h .curves → j < 201 → e k j ≡ f k j) (segments : (i : ℕ) → i < h .size → s i ≡ u i)
-    (curves : (i : ℕ) → i < h .size → s i .curve < h .curves) where
-  free-same : (i : ℕ) → i < h .size → freeSpeed h e s i ≡ freeSpeed h f u i
-  free-same i l = entries (s i .curve) 0 (curves i l) (lit< tt) ∙ ap (λ (x : Segment). f (x .curve) 0) (segments i l)
-
-  row-same : (rows : List Row) (i : ℕ) → i < h .size → rowNumber h e s rows i ≡ rowNumber h f u rows i
-  unfolding rowNumber
-  row-same rows i l = λ j. row (rowBad (merges h f (λ k. segments i l j) i) (segments i l j) (free-same i l j) (rowOf rows i)) 12 0
-
-  case-same : (c : Case) → caseNumber h e s c ≡ caseNumber h f u c
-  unfolding caseNumber
-  case-same c =
-      ap (λ (m : ℕ). first m (row (totalsBad (sumOf (vehiclesIn (c .rows)) (h .size)) (c .steps) (c .arrivals) (c .exits) (c .time)) 12 0))
-      (firstOf-ext (rowNumber h e s (c .rows)) (rowNumber h f u (c .rows)) (h .size) (row-same (c .rows)))
-
-  arrival-same : (ds : List ℕ) (i : ℕ) → i < h .size → arrivalNumber h e s ds i ≡ arrivalNumber h f u ds i
-  unfolding arrivalNumber
-  arrival-same ds i l =
-      ap (λ (x : Segment). row (ltb 1000000 (getD ds i 0) || (eqb (x .origin) 0 && ltb 0 (getD ds i 0))) 15 0) (segments i l)
-
-  step-same : (steps : ℕ) (ds : List ℕ) → stepNumber h e s steps ds ≡ stepNumber h f u steps ds
-  unfolding stepNumber
-  step-same steps ds =
-      ap (λ (m : ℕ). row (not (eqb (length ds) (h .size))) 13 (first m (row (leb stepsMost steps) 16 0)))
-      (firstOf-ext (arrivalNumber h e s ds) (arrivalNumber h f u ds) (h .size) (arrival-same ds))
-
--- the network kept in the words ws, and the lists that it is given by
-module _ (ws : List ℕ) (z : keptNumber ws ≡ 0) where
-  curve-there : (i : ℕ) → i < headIn ws .size → segmentOf (networkIn ws) i .curve < headIn ws .curves
-  curve-there i l = rw (from-segment (headIn ws) (entryIn ws) (segmentIn ws) i l) (kept-within ws z .each i l .curve-high)
-
-  pub case-kept : (c : Case)
-      → caseNumber (networkIn ws .head) (entryOf (networkIn ws)) (segmentOf (networkIn ws)) c ≡ caseNumber (headIn ws) (entryIn ws) (segmentIn ws) c
-  unfolding networkFrom
-  case-kept c =
-      case-same (headIn ws) (entryOf (networkIn ws)) (entryIn ws) (segmentOf (networkIn ws)) (segmentIn ws)
-      (from-entry (headIn ws) (entryIn ws) (segmentIn ws)) (from-segment (headIn ws) (entryIn ws) (segmentIn ws)) curve-there c
-
-  pub step-kept : (steps : ℕ) (ds : List ℕ)
-      → stepNumber (networkIn ws .head) (entryOf (networkIn ws)) (segmentOf (networkIn ws)) steps ds
-      ≡ stepNumber (headIn ws) (entryIn ws) (segmentIn ws) steps ds
-  unfolding networkFrom
-  step-kept steps ds =
-      step-same (headIn ws) (entryOf (networkIn ws)) (entryIn ws) (segmentOf (networkIn ws)) (segmentIn ws)
-      (from-entry (headIn ws) (entryIn ws) (segmentIn ws)) (from-segment (headIn ws) (entryIn ws) (segmentIn ws)) curve-there steps ds
-
 -- ---- lines in slots
 
 pub filled-some : (o : Option Line) → isFilled o ≡ true → (l : Line) × (o ≡ some l)
 filled-some none e = absurd (false≢true e)
 filled-some (some l) e = (l, refl)
-
-pub filled-none : (o : Option Line) → isFilled o ≡ false → o ≡ none
-filled-none none e = refl
-filled-none (some l) e = absurd (true≢false e)
 
 mark-filled : (o : Option Line) → eqb (markOf o) 1 ≡ isFilled o
 mark-filled none = refl
@@ -108,19 +50,23 @@ module _ {words speeds : ℕ} {a : Arrays} {b : Book} (r : Rel words speeds a b)
   unfolding networkFrom
   size-view = ap (λ (w : Network). w .head .size) (r .network)
 
+  curve-there : (i : ℕ) → i < headIn (netOf (a .words)) .size → segmentIn (netOf (a .words)) i .curve < headIn (netOf (a .words)) .curves
+  curve-there i l = kept-within (netOf (a .words)) (r .kept) .each i l .curve-high
+
+  -- a case is judged on the words as on the network
   case-view : (c : Case)
       → caseNumber (headIn (netOf (a .words))) (entryIn (netOf (a .words))) (segmentIn (netOf (a .words))) c
       ≡ caseNumber (b .network .head) (entryOf (b .network)) (segmentOf (b .network)) c
   case-view c =
-      sym (case-kept (netOf (a .words)) (r .kept) c)
+      sym (case-number-from (headIn (netOf (a .words))) (entryIn (netOf (a .words))) (segmentIn (netOf (a .words))) curve-there c)
       ∙ ap (λ (w : Network). caseNumber (w .head) (entryOf w) (segmentOf w) c) (r .network)
 
-  -- a step that the book does not refuse
+  -- and so is a step
   pub step-view : (steps : ℕ) (ds : List ℕ)
       → stepNumber (headIn (netOf (a .words))) (entryIn (netOf (a .words))) (segmentIn (netOf (a .words))) steps ds
       ≡ stepNumber (b .network .head) (entryOf (b .network)) (segmentOf (b .network)) steps ds
   step-view steps ds =
-      sym (step-kept (netOf (a .words)) (r .kept) steps ds)
+      sym (step-number-from (headIn (netOf (a .words))) (entryIn (netOf (a .words))) (segmentIn (netOf (a .words))) curve-there steps ds)
       ∙ ap (λ (w : Network). stepNumber (w .head) (entryOf w) (segmentOf w) steps ds) (r .network)
 
   -- ---- sound

@@ -4,10 +4,10 @@ use mathlib.Core.Path.{_≡_, refl, sym, ap, ap₂, _∙_}
 use mathlib.Core.Logic.{⊎-elim}
 use mathlib.Core.Bool.{Bool, true, false, cond, _&&_}
 use mathlib.Core.List.{List, [], _∷_, _++_, append-assoc, append-nil}
-use native.Mathlib.Nat.{le-of-suc-le-suc, not-suc-le-zero, eq-or-lt-of-le, mul-zero, mul-suc, add-suc, add-zero, le-trans, le-of-eq}
+use native.Mathlib.Nat.{le-of-suc-le-suc, not-suc-le-zero, eq-or-lt-of-le, mul-zero, mul-suc, add-suc, add-zero, le-trans, le-of-eq, add-sub-of-le}
 use native.Mathlib.Omega.{arith}
 use lib.Dec.{ltb, eqb}
-use lib.ListN.{length, getD, set, take, drop, length-append, length-take, length-drop, length-set, take-append-drop, List·getD-append, List·getD-eq-default}
+use lib.ListN.{length, getD, set, take, drop, length-append, length-take, length-drop, length-set, replicate, length-replicate, replicate-append-replicate, take-append-drop, List·getD-append, List·getD-eq-default}
 use lib.Seq.{getD-at, getD-take, getD-drop, take-add, take-at, drop-at, drop-drop, drop-cons, ext-getD, length-take-le, take-all, getD-set-same, getD-set-other, set-out}
 use borrow.Author.Tests.{ltb-true, ltb-false, eqb-true, eqb-false}
 use Rattle.laws.specs.Lists.{table, part, parts}
@@ -78,6 +78,26 @@ pub parts-parts {ℓ} : {A : Type ℓ} (f : ℕ → List A) (m c : ℕ) → part
 unfolding parts
 parts-parts f m zero = rw mul-zero
 parts-parts f m (suc c) = rw (parts-parts f m c, mul-suc) (sym (parts-add f (m * c) m))
+
+-- a table is parts of one element each
+table-parts {ℓ} : {A : Type ℓ} (f : ℕ → A) (n : ℕ) → table f n ≡ parts (λ i. f i ∷ []) n
+unfolding table parts
+table-parts f zero = refl
+table-parts f (suc n) = ap (λ (l : List _). l ++ (f n ∷ [])) (table-parts f n)
+
+-- m values c times are m * c values
+pub table-blocks {ℓ} : {A : Type ℓ} (f : ℕ → A) (m c : ℕ) → parts (λ k. table (λ j. f (m * k + j)) m) c ≡ table f (m * c)
+table-blocks f m c =
+    parts-ext _ (λ k. parts (λ j. f (m * k + j) ∷ []) m) c (λ k l. table-parts (λ j. f (m * k + j)) m)
+    ∙ parts-parts (λ i. f i ∷ []) m c
+    ∙ sym (table-parts f (m * c))
+
+-- what is left of n equal values after m of them
+pub drop-replicate : {A : Type 0} (a : A) (m n : ℕ) (rest : List A) → m ≤ n → drop m (replicate n a ++ rest) ≡ replicate (n - m) a ++ rest
+drop-replicate {A = A} a m n rest l =
+    ap (λ (xs : List A). drop m (xs ++ rest)) (sym (replicate-append-replicate m (n - m) a ∙ ap (λ (k : ℕ). replicate k a) (add-sub-of-le l)))
+    ∙ ap (drop m) (append-assoc (replicate m a) (replicate (n - m) a) rest)
+    ∙ drop-at (replicate m a) _ m (length-replicate m a)
 
 -- a list is its equal parts, one after the other
 pub parts-of {ℓ} : {A : Type ℓ} (f : ℕ → List A) (w : ℕ) (l : List A) (n : ℕ) → ((k : ℕ) → k < n → f k ≡ take w (drop (w * k) l)) → parts f n ≡ take (w * n) l

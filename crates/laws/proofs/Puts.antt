@@ -1,12 +1,12 @@
--- Laws of `puts`: what a loop that stores part after part needs.
+-- Laws of `puts`: what a loop that stores part after part, or element after element, needs.
 use Prim.Native.Nat.{ℕ, suc, _+_, _-_, _*_, _≤_, _<_}
-use native.Mathlib.Nat.{mul-suc, mul-zero, add-zero, add-assoc, mul-le-mul-left, le-antisymm}
+use native.Mathlib.Nat.{mul-suc, mul-zero, add-zero, add-assoc, mul-le-mul-left, le-antisymm, le-of-eq}
 use native.Mathlib.Numerals.{add-one}
 use native.Mathlib.Omega.{arith}
 use mathlib.Core.Path.{_≡_, sym, ap, _∙_}
 use mathlib.Core.List.{List, [], _++_, append-assoc, append-nil}
-use lib.ListN.{length, take, drop, length-append, length-take, length-drop, take-append-drop, drop-of-length-le}
-use lib.Seq.{length-take-le, take-at, drop-at, drop-drop}
+use lib.ListN.{length, getD, set, take, drop, length-append, length-take, length-drop, take-append-drop, drop-of-length-le}
+use lib.Seq.{length-take-le, take-at, take-all, drop-at, drop-drop, paste, paste-zero, paste-suc, length-paste}
 use Rattle.laws.specs.Lists.{part, parts, puts}
 use Rattle.laws.proofs.Lists.{length-parts, parts-at}
 
@@ -64,13 +64,16 @@ module _ {A : Type 0} (w : ℕ) (f : ℕ → List A) (at n : ℕ) (l : List A) (
       ∙ parts-at w f n i (drop (at + w * n) l) each h
 
 -- ---- a list that is written from its front on: P is written, and the parts go after it; the rest is as in o
-pub puts-after : {A : Type 0} (o out P : List A) (q w : ℕ) (f : ℕ → List A) (n : ℕ) → length P ≡ q → out ≡ P ++ drop q o → puts w f q n out ≡ (P ++ parts f n) ++ drop (q + w * n) o
-unfolding puts
-puts-after o out P q w f n len is =
+pub put-after : {A : Type 0} (o out P xs : List A) (q m : ℕ) → length P ≡ q → out ≡ P ++ drop q o → take q out ++ (xs ++ drop (q + m) out) ≡ (P ++ xs) ++ drop (q + m) o
+put-after o out P xs q m len is =
     let t : take q out ≡ P = rw is (take-at P (drop q o) q len) in
     let d : drop q out ≡ drop q o = rw is (drop-at P (drop q o) q len) in
-    let r : drop (q + w * n) out ≡ drop (q + w * n) o = sym (drop-drop (w * n) q out) ∙ ap (drop (w * n)) d ∙ drop-drop (w * n) q o in
+    let r : drop (q + m) out ≡ drop (q + m) o = sym (drop-drop m q out) ∙ ap (drop m) d ∙ drop-drop m q o in
     rw (t, r, append-assoc)
+
+pub puts-after : {A : Type 0} (o out P : List A) (q w : ℕ) (f : ℕ → List A) (n : ℕ) → length P ≡ q → out ≡ P ++ drop q o → puts w f q n out ≡ (P ++ parts f n) ++ drop (q + w * n) o
+unfolding puts
+puts-after o out P q w f n len is = put-after o out P (parts f n) q (w * n) len is
 
 -- ---- a part that was lent: the list is ys in its place, and the lender gets back take .. ++ (ys ++ drop ..).
 -- k is the part's length as the code computes it
@@ -111,3 +114,34 @@ module _ {A : Type 0} {w : ℕ} {f : ℕ → List A} {at n : ℕ} {l : List A} (
               ∙ puts-more w f at n l each room i h
               ∙ ap (λ (m : ℕ). puts w f at m l) (sym (add-one i));
         }
+
+-- ---- a loop that stores one element a turn
+
+-- the first i of the n elements of s are stored over l, from place at on
+pub record Stored {A : Type 0} (s : List A) (at n : ℕ) (l out : List A) (i : ℕ) : Type 0 where
+  pub within : i ≤ n
+  pub is : out ≡ paste l at s i
+
+pub stored-none : {A : Type 0} {s l : List A} {at n : ℕ} → Stored s at n l l 0
+stored-none {s = s} {l} {at} = record { within = omega arith; is = paste-zero l at s }
+
+module _ {A : Type 0} {s l : List A} {at n : ℕ} (long : length s ≡ n) (room : at + n ≤ length l) {out : List A} {i : ℕ} (t : Stored s at n l out i) where
+  pub stored-length : length out ≡ length l
+  stored-length = ap length (t .is) ∙ length-paste l at s i (omega (arith, t .within)) (omega (arith, t .within))
+
+  pub stored-all : n ≤ i → out ≡ take at l ++ (s ++ drop (at + n) l)
+  stored-all end =
+      t .is
+      ∙ ap (λ (m : ℕ). paste l at s m) (le-antisymm (t .within) end)
+      ∙ append-assoc (take at l) (take n s) (drop (at + n) l)
+      ∙ ap (λ (r : List A). take at l ++ (r ++ drop (at + n) l)) (take-all n s (le-of-eq long))
+
+  -- x was stored at place p
+  pub stored-more : {x : A} {p : ℕ} (d : A) → i < n → p ≡ at + i → x ≡ getD s i d → Stored s at n l (set out p x) (i + 1)
+  stored-more d h place value =
+      record {
+        within = omega arith;
+        is = (λ j. set (t .is j) (place j) (value j))
+            ∙ paste-suc l at s i d (omega (arith, h)) (omega (arith, h))
+            ∙ ap (λ (m : ℕ). paste l at s m) (sym (add-one i));
+      }

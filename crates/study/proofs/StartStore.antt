@@ -14,6 +14,8 @@ use Rattle.network.specs.Network.{Network, networkFrom}
 use Rattle.network.specs.File.{fileNumber, networkOf}
 use Rattle.network.specs.Words.{headIn, networkIn, keptNumber, keptWords}
 use Rattle.network.proofs.File.{network-within}
+use Rattle.network.proofs.Kept.{length-kept}
+use Rattle.network.proofs.KeptFile.{kept-file, kept-network}
 use Rattle.model.specs.declared.Row.{Row}
 use Rattle.model.specs.Case.{Case, rowOf}
 use Rattle.model.specs.Words.{netOf, caseIn, codedRow, codedWords, codedSpeeds}
@@ -125,24 +127,20 @@ module _ (a : Arrays) (w : Network) (c : Case) (many : length (c .rows) ≡ w .h
 
 -- ---- the call
 
-module _
-    (length-kept : (w : Network) → w .head .curves ≤ 8 → w .head .size ≤ 40 → length (keptWords w) ≡ 2560)
-    (kept-file : (b : List ℕ) → fileNumber b ≡ 0 → keptNumber (keptWords (networkOf b)) ≡ 0)
-    (kept-network : (b : List ℕ) → fileNumber b ≡ 0 → networkIn (keptWords (networkOf b)) ≡ networkOf b) where
-  module _ (a : Arrays) (file mvs speeds queues : List ℕ) (ok : fileNumber file ≡ 0)
-      (words-fit : wordsFor (networkOf file .head .size) ≤ length (a .words))
-      (speeds-fit : speedsFor (networkOf file .head .size) ≤ length (a .speeds)) where
-    abbrev w : Network
-    w = networkOf file
+module _ (a : Arrays) (file mvs speeds queues : List ℕ) (ok : fileNumber file ≡ 0)
+    (words-fit : wordsFor (networkOf file .head .size) ≤ length (a .words))
+    (speeds-fit : speedsFor (networkOf file .head .size) ≤ length (a .speeds)) where
+  abbrev brought : Network
+  brought = networkOf file
 
-    long : length (keptWords w) ≡ 2560
-    unfolding networkFrom
-    long = let head = network-within file ok .head in length-kept w (head .curves-high) (head .size-high)
+  long : length (keptWords brought) ≡ 2560
+  unfolding networkFrom
+  long = let head = network-within file ok .head in length-kept brought (head .curves-high) (head .size-high)
 
-    rows-many : length (startCase w mvs speeds queues .rows) ≡ w .head .size
-    unfolding startCase
-    rows-many = length-table (startRow w mvs speeds queues) (w .head .size)
+  rows-many : length (startCase brought mvs speeds queues .rows) ≡ brought .head .size
+  unfolding startCase
+  rows-many = length-table (startRow brought mvs speeds queues) (brought .head .size)
 
-    pub start-stored : Begun a (stored (start file mvs speeds queues) a) (networkOf file) (startCase (networkOf file) mvs speeds queues)
-    unfolding storedWords storedSpeeds
-    start-stored = begun a w (startCase w mvs speeds queues) rows-many long (kept-file file ok) (kept-network file ok) words-fit speeds-fit
+  pub start-stored : Begun a (stored (start file mvs speeds queues) a) (networkOf file) (startCase (networkOf file) mvs speeds queues)
+  unfolding storedWords storedSpeeds
+  start-stored = begun a brought (startCase brought mvs speeds queues) rows-many long (kept-file file ok) (kept-network file ok) words-fit speeds-fit

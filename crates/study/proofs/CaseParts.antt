@@ -6,11 +6,10 @@ use native.Mathlib.Nat.{add-zero, zero-add, mul-le-mul-left, mul-suc}
 use native.Mathlib.Decide.{decLt}
 use native.Mathlib.Omega.{arith}
 use lib.ListN.{length, drop, getD, set}
-use lib.Seq.{getD-drop}
 use lib.Ieee.{Float, nan}
 use Rattle.laws.specs.Lists.{table, part, putPart}
 use Rattle.laws.proofs.Lists.{table-ext, table-set, part-at}
-use Rattle.laws.proofs.Outside.{SameOutside, part-part, part-before, part-after, drop-same, put-same, part-put}
+use Rattle.laws.proofs.Outside.{SameOutside, part-part, part-before, part-after, getD-after, put-same, part-put}
 use Rattle.model.specs.declared.Row.{Row}
 use Rattle.model.specs.Words.{rowIn, rowAt, rowsIn, caseIn}
 use Rattle.model.proofs.ReadBack.{row-take}
@@ -93,11 +92,8 @@ module _ (words : List ℕ) (speeds : List Float) (at from n i : ℕ) (ys : List
       go (yes b) = part-before row-put-same (at + 16 * j) 16 (omega (arith, row-within j i b))
       go (no b) = part-after row-put-same (at + 16 * j) 16 (omega (arith, row-within i j (omega (arith, other))))
 
-  total-kept : (k : ℕ) → getD put (at + 16 * n + k) 0 ≡ getD words (at + 16 * n + k) 0
-  total-kept k =
-      sym (getD-drop (at + 16 * n) put k 0)
-      ∙ ap (λ (w : List ℕ). getD w k 0) (drop-same row-put-same (at + 16 * n) (omega (arith, row-within i n h)))
-      ∙ getD-drop (at + 16 * n) words k 0
+  total-kept : (m : ℕ) → at + 16 * n ≤ m → getD put m 0 ≡ getD words m 0
+  total-kept m l = getD-after row-put-same m 0 (omega (arith, row-within i n h))
 
   pub row-put : caseIn put speeds at from n ≡ withRow (caseIn words speeds at from n) i (rowIn ys (getD speeds (from + i) nan))
   unfolding caseIn rowsIn
@@ -106,8 +102,8 @@ module _ (words : List ℕ) (speeds : List Float) (at from n i : ℕ) (ys : List
         rows =
             (table-set (rowAt words speeds at from) (rowAt put speeds at from) n i h row-other
             ∙ ap (λ (r : Row). set (table (rowAt words speeds at from) n) i r) row-new) j;
-        steps = (ap (λ (m : ℕ). getD put m 0) (sym (add-zero (at + 16 * n))) ∙ total-kept 0 ∙ ap (λ (m : ℕ). getD words m 0) (add-zero (at + 16 * n))) j;
-        arrivals = total-kept 1 j;
-        exits = total-kept 2 j;
-        time = total-kept 3 j;
+        steps = total-kept (at + 16 * n) (omega arith) j;
+        arrivals = total-kept (at + 16 * n + 1) (omega arith) j;
+        exits = total-kept (at + 16 * n + 2) (omega arith) j;
+        time = total-kept (at + 16 * n + 3) (omega arith) j;
       }

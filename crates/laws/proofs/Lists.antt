@@ -7,7 +7,7 @@ use mathlib.Core.List.{List, [], _∷_, _++_, append-assoc, append-nil}
 use native.Mathlib.Nat.{le-of-suc-le-suc, not-suc-le-zero, eq-or-lt-of-le, mul-zero, mul-suc, add-suc, add-zero, le-trans, le-of-eq, add-sub-of-le}
 use native.Mathlib.Omega.{arith}
 use lib.Dec.{ltb, eqb}
-use lib.ListN.{length, getD, set, take, drop, length-append, length-take, length-drop, replicate, length-replicate, replicate-append-replicate, take-append-drop, List·getD-append, List·getD-eq-default}
+use lib.ListN.{length, getD, set, take, drop, length-append, length-take, length-drop, length-set, replicate, length-replicate, replicate-append-replicate, take-append-drop, List·getD-append, List·getD-eq-default}
 use lib.Seq.{getD-at, getD-take, getD-drop, take-add, take-at, drop-at, drop-drop, drop-cons, ext-getD, length-take-le, take-all, getD-set-same, getD-set-other, set-out}
 use borrow.Author.Tests.{ltb-true, ltb-false, eqb-true, eqb-false}
 use Rattle.laws.specs.Lists.{table, part, parts}
@@ -38,6 +38,19 @@ pub table-of {ℓ} : {A : Type ℓ} (f : ℕ → A) (l : List A) (n : ℕ) (d : 
 table-of f l n d e each =
     ext-getD d (table f n) l (length-table f n ∙ sym e)
     (λ i h. let k : i < n = rw length-table at h in getD-table f n i d k ∙ each i k)
+
+-- one element is another
+pub table-set : {A : Type 0} (f g : ℕ → A) (n i : ℕ) → i < n → ((j : ℕ) → j < n → (j ≡ i → ⊥) → g j ≡ f j) → table g n ≡ set (table f n) i (g i)
+table-set f g n i h same = table-of g (set (table f n) i (g i)) n (g i) (length-set (table f n) i (g i) ∙ length-table f n) each
+  where
+    each : (j : ℕ) → j < n → g j ≡ getD (set (table f n) i (g i)) j (g i)
+    each j l = go (eqb i j) refl
+      where
+        go : (b : Bool) → eqb i j ≡ b → g j ≡ getD (set (table f n) i (g i)) j (g i)
+        go true e = let is = eqb-true i j e in ap g (sym is) ∙ sym (getD-set-same (table f n) i (g i) (g i) (omega (arith, length-table f n))) ∙ ap (λ (k : ℕ). getD (set (table f n) i (g i)) k (g i)) is
+        go false e =
+            let other : j ≡ i → ⊥ = λ q. eqb-false i j e (sym q) in
+            same j l other ∙ sym (getD-table f n j (g i) l) ∙ sym (getD-set-other (table f n) i j (g i) (g i) other)
 
 -- ---- parts
 

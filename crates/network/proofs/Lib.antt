@@ -8,4 +8,5 @@ pub mod Reading
 pub mod Keeping
 pub mod Kept
 pub mod KeepCall
+pub mod KeptFile
 pub mod Marked

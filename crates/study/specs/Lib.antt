@@ -8,3 +8,5 @@ pub mod Perform
 pub mod Book
 pub mod Claim
 pub mod Ready
+pub mod Agreed
+pub mod Example

@@ -7,7 +7,7 @@ use mathlib.Core.Path.{_≡_, sym, ap, _∙_}
 use mathlib.Core.List.{List, [], _++_, append-assoc, append-nil}
 use lib.ListN.{length, take, drop, length-append, length-take, length-drop, take-append-drop, drop-of-length-le}
 use lib.Seq.{length-take-le, take-at, drop-at, drop-drop}
-use Rattle.laws.specs.Lists.{part, parts, puts}
+use Rattle.laws.specs.Lists.{part, putPart, parts, puts}
 use Rattle.laws.proofs.Lists.{length-parts, parts-at}
 
 module _ {A : Type 0} (w : ℕ) (f : ℕ → List A) (at n : ℕ) (l : List A) (each : (k : ℕ) → k < n → length (f k) ≡ w) (room : at + w * n ≤ length l) where
@@ -81,6 +81,10 @@ part-back l vs ys at w k is e =
     let short : length (part at w l) ≤ w = simp length-take (omega arith) in
     let none : drop w (part at w l) ≡ [] = drop-of-length-le (part at w l) short in
     rw (e, is, none, append-nil, drop-drop)
+
+-- f of the part was written over it
+pub part-changed : {A : Type 0} (l ys : List A) (f : List A → List A) (at w k : ℕ) → k ≡ w → ys ≡ f (part at k l) → take at l ++ (ys ++ drop k (drop at l)) ≡ putPart at w (f (part at w l)) l
+part-changed l ys f at w k is e = rw (e, is, drop-drop)
 
 -- ---- a loop that writes one part a turn over a part that it lends
 

@@ -1,3 +1,5 @@
 pub mod Judging
 pub mod Sounds
 pub mod Performing
+pub mod Network
+pub mod Settings

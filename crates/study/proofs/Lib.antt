@@ -26,3 +26,5 @@ pub mod Past
 pub mod Demand3
 pub mod Agreed
 pub mod Example
+pub mod Network
+pub mod Settings

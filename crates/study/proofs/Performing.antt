@@ -60,7 +60,7 @@ module _ (c : Call) (words : List ℕ) (speeds : List Float) where
   unfolding refusalAt
   judged p e = row-skipped _ _ _ (λ j. not (p j || e j))
 
-  -- an accepted call that is no Start was made on a sound study
-  pub was-sound : isStart c ≡ false → refusalAt c a ≡ 0 → sound words speeds ≡ true
+  -- only a sound study is not refused
+  pub accepted-sound : isStart c ≡ false → refusalAt c a ≡ 0 → sound words speeds ≡ true
   unfolding refusalAt
-  was-sound p z = (λ j. sym p j || sound words speeds) ∙ not-false _ (row-passed _ _ _ z)
+  accepted-sound p z = sym (λ j. p j || sound words speeds) ∙ not-false (isStart c || sound words speeds) (row-passed _ _ _ z)

@@ -9,7 +9,7 @@ use borrow.Author.Needs.{needs}
 use Rattle.study.specs.Calls.{step}
 use Rattle.study.specs.Sound.{sound}
 use Rattle.study.specs.Perform.{lent, refusalAt, answerOf}
-use Rattle.study.proofs.Performing.{refuses, accepts, was-sound}
+use Rattle.study.proofs.Performing.{refuses, accepts, accepted-sound}
 use Rattle.study.proofs.Stepping.{runs-left, step-ready, step-totals, step-long, step-words, step-speeds}
 use Rattle.study.proofs.step.Statement.{statement}
 use Rattle.study.proofs.step.Tie as tie
@@ -21,7 +21,7 @@ taken : (c : tie.Else1) → let a = start c .args in refusalAt (step (a .arrival
 taken c = sym (c .before .step-number .ensures) ∙ c .if1 .left
 
 is-sound : (c : tie.Else1) → sound (start c .args .words .now) (start c .args .speeds .now) ≡ true
-is-sound c = was-sound (step (start c .args .arrivals .now)) _ _ refl (taken c)
+is-sound c = accepted-sound (step (start c .args .arrivals .now)) _ _ refl (taken c)
 
 returns : tie.Need-returns
 returns c = refuses (step _) _ _ (c .before .step-number .ensures) (c .if1 .taken)

@@ -6,3 +6,5 @@ pub mod Start
 pub mod Change
 pub mod Refusal
 pub mod Perform
+pub mod Figures
+pub mod Write

@@ -5,7 +5,9 @@ use Rattle.study.proofs.figures.case_figures.Tie as tie
 
 returns : tie.Need-returns
 unfolding figuresAt
-returns c = cc
+returns c =
+    let queues = c .before .before .before in
+    simp (queues .column2 .ensures, queues .before .column .ensures)
 
 pub case-figures-spec : {M : Type 1} → statement M
 case-figures-spec =

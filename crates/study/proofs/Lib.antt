@@ -28,3 +28,5 @@ pub mod Agreed
 pub mod Example
 pub mod Network
 pub mod Settings
+pub mod Reporting
+pub mod Writing

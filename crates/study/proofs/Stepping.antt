@@ -5,9 +5,8 @@ use mathlib.Core.Bool.{Bool, true, false, _&&_, _||_, not}
 use mathlib.Core.List.{List}
 use native.Mathlib.Omega.{arith}
 use native.Mathlib.Nat.{zero-mul}
-use lib.Dec.{ltb, leb, eqb, lit<}
+use lib.Dec.{ltb, leb, eqb}
 use lib.ListN.{length, getD, set}
-use lib.Seq.{getD-take}
 use lib.Ieee.{Float}
 use borrow.Author.Tests.{le-leb, lt-leb, leb-false}
 use Rattle.laws.specs.First.{row, first, firstOf}
@@ -25,14 +24,10 @@ use Rattle.study.specs.Sound.{sound}
 use Rattle.study.specs.Calls.{step}
 use Rattle.study.specs.Refusal.{refusal}
 use Rattle.study.specs.Perform.{lent, refusalAt, storedWords, storedSpeeds}
+use Rattle.study.proofs.Network.{size-word}
 use Rattle.study.proofs.Judging.{placed}
 use Rattle.study.proofs.Sounds.{laid, live-sound, runs-high}
 use Rattle.study.proofs.Performing.{judged}
-
--- n is read from word 1
-pub size-is : (words : List ℕ) → sizeAt words ≡ getD words 1 0
-unfolding headIn
-size-is words = getD-take 2560 words 1 0 (lit< tt)
 
 -- the live case stands first
 pub live-word : (n : ℕ) → caseWord n 0 ≡ 2576
@@ -93,27 +88,27 @@ module _ (words : List ℕ) (speeds : List Float) (ds : List ℕ) where
       -- as the code reads n and names the live case's places
       pub step-ready : Ready words speeds ds 2576 0 (getD words 1 0)
       step-ready =
-          subst (λ (m : ℕ). Ready words speeds ds 2576 0 m) (size-is words)
+          subst (λ (m : ℕ). Ready words speeds ds 2576 0 m) (size-word words)
           (subst (λ (p : ℕ). Ready words speeds ds p 0 (sizeAt words)) (live-word (sizeAt words))
           (subst (λ (p : ℕ). Ready words speeds ds (caseWord (sizeAt words) 0) p (sizeAt words)) (zero-mul (sizeAt words)) ready))
 
       pub step-totals : TotalsOk words (2576 + 16 * getD words 1 0)
       step-totals =
-          subst (λ (m : ℕ). TotalsOk words (2576 + 16 * m)) (size-is words)
+          subst (λ (m : ℕ). TotalsOk words (2576 + 16 * m)) (size-word words)
           (subst (λ (p : ℕ). TotalsOk words (p + 16 * sizeAt words)) (live-word (sizeAt words)) (case-total live-case (live-sound words speeds s)))
 
       pub step-long : 2576 + 7 * (16 * getD words 1 0 + 8) ≤ length words
-      step-long = omega (arith, laid words speeds s .room, size-is words)
+      step-long = omega (arith, laid words speeds s .room, size-word words)
 
   -- ---- what is stored, by those places
   pub step-words : storedWords (step ds) (lent words speeds) ≡ set (stepCaseWords words speeds 2576 0 (getD words 1 0) ds) 2560 (runCountAt words + 1)
   unfolding storedWords
   step-words =
       (λ j. set (stepCaseWords words speeds (live-word (sizeAt words) j) (zero-mul (sizeAt words) j) (sizeAt words) ds) 2560 (runCountAt words + 1))
-      ∙ ap (λ (n : ℕ). set (stepCaseWords words speeds 2576 0 n ds) 2560 (runCountAt words + 1)) (size-is words)
+      ∙ ap (λ (n : ℕ). set (stepCaseWords words speeds 2576 0 n ds) 2560 (runCountAt words + 1)) (size-word words)
 
   pub step-speeds : storedSpeeds (step ds) (lent words speeds) ≡ stepCaseSpeeds words speeds 2576 0 (getD words 1 0) ds
   unfolding storedSpeeds
   step-speeds =
       (λ j. stepCaseSpeeds words speeds (live-word (sizeAt words) j) (zero-mul (sizeAt words) j) (sizeAt words) ds)
-      ∙ ap (λ (n : ℕ). stepCaseSpeeds words speeds 2576 0 n ds) (size-is words)
+      ∙ ap (λ (n : ℕ). stepCaseSpeeds words speeds 2576 0 n ds) (size-word words)

@@ -10,3 +10,5 @@ pub mod Claim
 pub mod Ready
 pub mod Agreed
 pub mod Example
+pub mod Figures
+pub mod Write

@@ -12,10 +12,11 @@ use Rattle.model.specs.Sound.{stepNumberIn}
 use Rattle.study.specs.Arrangement.{sizeAt}
 use Rattle.study.specs.Calls.{step}
 use Rattle.study.specs.Sound.{sound}
+use Rattle.study.proofs.Network.{size-word}
 use Rattle.study.proofs.Judging.{size-high}
 use Rattle.study.proofs.Sounds.{laid}
 use Rattle.study.proofs.Performing.{unsound}
-use Rattle.study.proofs.Stepping.{size-is, stepsWord, step-refused, runs-spent, step-taken}
+use Rattle.study.proofs.Stepping.{stepsWord, step-refused, runs-spent, step-taken}
 use Rattle.study.proofs.refuse.step_number.Statement.{statement}
 use Rattle.study.proofs.refuse.step_number.Tie as tie
 
@@ -27,17 +28,17 @@ is-sound c = sym (c .before .sound .ensures) ∙ not-false _ (c .if1 .left)
 
 -- n, which is read from word 1
 small : (c : tie.Else1) → getD (start c .args .words .now) 1 0 ≤ 40
-small c = omega (arith, size-high (laid _ _ (is-sound c)), size-is (start c .args .words .now))
+small c = omega (arith, size-high (laid _ _ (is-sound c)), size-word (start c .args .words .now))
 
 room : (c : tie.Else1) → 2576 + 7 * (16 * getD (start c .args .words .now) 1 0 + 8) ≤ length (start c .args .words .now)
-room c = omega (arith, laid _ _ (is-sound c) .room, size-is (start c .args .words .now))
+room c = omega (arith, laid _ _ (is-sound c) .room, size-word (start c .args .words .now))
 
 -- what the model's rows say, of the steps that stand at their word
 rows : (c : tie.After-step-number) →
     let d = c .before .before .before .before in
     let a = start d .args in
     c .step-number .result ≡ stepNumberIn (netOf (a .words .now)) (stepsWord (a .words .now) (a .speeds .now) (a .arrivals .now)) (a .arrivals .now)
-rows c = let w = start (c .before .before .before .before) .args .words .now in rw (← size-is w) at (c .step-number .ensures)
+rows c = let w = start (c .before .before .before .before) .args .words .now in rw (← size-word w) at (c .step-number .ensures)
 
 returns : tie.Need-returns
 returns c =
@@ -62,7 +63,7 @@ step-number-spec =
     (λ c. omega (arith, small (c .before .before)))
     (λ c. omega (arith, small (c .before .before)))
     (λ c. omega (arith, room (c .before .before .before)))
-    (λ c κs. (omega (arith, small (c .before .before .before)), sym (size-is (start (c .before .before .before) .args .words .now))))
+    (λ c κs. (omega (arith, small (c .before .before .before)), sym (size-word (start (c .before .before .before) .args .words .now))))
     (λ c. let d = c .before .before .before .before .before in step-refused _ _ _ (is-sound d) (rows (c .before)) (c .if2 .taken))
     (λ c. omega (arith, room (c .before .before .before .before .before .before)))
     (λ c. let d = c .before .before .before .before .before .before .before in

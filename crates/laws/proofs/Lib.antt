@@ -6,3 +6,4 @@ pub mod Outside
 pub mod BigEndian
 pub mod Sums
 pub mod Reals
+pub mod Fill

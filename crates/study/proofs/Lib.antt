@@ -30,3 +30,4 @@ pub mod Network
 pub mod Settings
 pub mod Reporting
 pub mod Writing
+pub mod Slots

@@ -1,10 +1,12 @@
 -- What the functions inside rest on.
-use Prim.Native.Nat.{ℕ, _≤_}
+use Prim.Native.Nat.{ℕ, _+_, _*_, _≤_}
 use mathlib.Core.Path.{_≡_}
-use mathlib.Core.List.{List}
-use lib.ListN.{length, getD}
+use mathlib.Core.List.{List, [], _∷_, _++_}
+use lib.ListN.{length, getD, drop, replicate}
 use lib.Ieee.{Float}
-use Rattle.network.specs.File.{headOf, segmentOn, entryOn, fileNumber}
+use Rattle.laws.specs.Lists.{parts}
+use Rattle.network.specs.File.{headOf, segmentOn, entryOn, networkOf, fileNumber}
+use Rattle.network.specs.Words.{keptWords}
 use Rattle.model.specs.Ready.{NetworkOk}
 use Rattle.study.specs.Arrangement.{wordsFor, speedsFor, sizeAt}
 use Rattle.study.specs.Start.{startSegmentNumber}
@@ -27,3 +29,17 @@ pub record Listed (b mvs speeds queues : List ℕ) : Type 0 where
   pub mvs-many : length mvs ≡ headOf b .size
   pub speeds-many : length speeds ≡ headOf b .size
   pub queues-many : length queues ≡ headOf b .size
+
+-- ---- what Start writes, part by part
+
+-- the 16 words of a row with a dark sign and an open ramp, flows 0
+unfoldable pub openWords : ℕ → ℕ → ℕ → List ℕ
+openWords mv queue most = mv ∷ queue ∷ 0 ∷ 0 ∷ 0 ∷ most ∷ 0 ∷ 0 ∷ 0 ∷ 0 ∷ 0 ∷ 0 ∷ 0 ∷ 0 ∷ 0 ∷ 0 ∷ []
+
+abbrev pub openWordsOn : List ℕ → List ℕ → List ℕ → ℕ → List ℕ
+openWordsOn b mvs queues i = openWords (getD mvs i 0) (getD queues i 0) (segmentOn b i .most)
+
+-- the network, 16 words of run count and marks, the rows and 8 words of totals
+unfoldable pub beginWords : List ℕ → List ℕ → List ℕ → ℕ → List ℕ → List ℕ
+beginWords b mvs queues n words =
+    (keptWords (networkOf b) ++ replicate 16 0) ++ (parts (openWordsOn b mvs queues) n ++ (replicate 8 0 ++ drop (2584 + 16 * n) words))

@@ -81,6 +81,29 @@ pub fn sound(words: &[u64], speeds: &[f64]) -> bool
     judge::sound_number(words, speeds) == 0
 }
 
+// Begins a study on a network file: for each segment initial mv, speed in whole m/h and queue in mv. All ramps are open, signs dark,
+// flows and totals 0, slots empty, the run count 0.
+pub fn start(
+    words: &mut [u64],
+    speeds: &mut [f64],
+    file: &[u8],
+    mvs: &[u32],
+    starts: &[u32],
+    queues: &[u32],
+) -> Verdict
+    ensures { λ r. ⌜ Performs (start (now (file .entry)) (now (mvs .entry)) (now (starts .entry)) (now (queues .entry))) (now (words .entry)) (now (speeds .entry)) (verdictSays r) (now (words .exit)) (now (speeds .exit)) ⌝ }
+{
+    let r = begin::start_number(words, speeds, file, mvs, starts, queues);
+    if r != 0 {
+        return Verdict::Refused(r);
+    }
+    let h = network::head_of(file);
+    let n = h.size as usize;
+    begin::put_words(words, file, mvs, queues, n);
+    begin::put_speeds(speeds, starts, n);
+    Verdict::Accepted
+}
+
 // Sets the sign of segment i, from 1: a limit in km/h, 0 where it is dark, with compliance in thousandths.
 pub fn sign(words: &mut [u64], speeds: &[f64], i: u64, limit: u64, compliance: i64) -> Verdict
     ensures { λ r. ⌜ Performs (sign i limit compliance) (now (words .entry)) (now (speeds .entry)) (verdictSays r) (now (words .exit)) (now (speeds .entry)) ⌝ }

@@ -34,15 +34,9 @@ word-room n k h = omega (arith, gap k 7 (caseLength n) (omega arith))
 pub speed-room : (n k : ℕ) → k ≤ 6 → caseSpeed n k + n ≤ speedsFor n
 speed-room n k h = omega (arith, gap k 7 n (omega arith))
 
--- the lengths grow with the network
-pub words-grow : (n m : ℕ) → n ≤ m → wordsFor n ≤ wordsFor m
-words-grow n m h = omega arith
-
-pub speeds-grow : (n m : ℕ) → n ≤ m → speedsFor n ≤ speedsFor m
-speeds-grow n m h = omega arith
-
 -- places p and q, of width w, are those of two cases: a store to q leaves p
-module _ {A : Type 0} {l z : List A} (j k p q w : ℕ) (s : SameOutside q (q + w) l z) (other : j ≡ k → ⊥) (below : j < k → p + w ≤ q) (above : k < j → q + w ≤ p) where
+module _ {A : Type 0} {l z : List A} (j k p q w : ℕ) (s : SameOutside q (q + w) l z)
+    (other : j ≡ k → ⊥) (below : j < k → p + w ≤ q) (above : k < j → q + w ≤ p) where
   part-apart : part p w z ≡ part p w l
   part-apart = go (decLt j k)
     where

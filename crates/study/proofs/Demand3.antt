@@ -72,7 +72,7 @@ module _ (file mvs paces queues : List ℕ) (a : Arrays) (e : refusalAt (start f
   begin-state = rw e
 
   begin-rel : Rel (length (a .words)) (length (a .speeds)) (perform begin a .state) fresh
-  begin-rel = rw begin-state (start-rel file mvs queues paces a (groundsAt a) refl refl no-refusal)
+  begin-rel = rw begin-state (start-rel file mvs paces queues a (groundsAt a) refl refl no-refusal)
 
   begin-since : Since (entry begin (perform begin a .answer) ∷ []) fresh
   begin-since = rw begin-answer (since-start [] file mvs paces queues)
@@ -86,7 +86,7 @@ module _ (file mvs paces queues : List ℕ) (a : Arrays) (e : refusalAt (start f
       let u : t ≡ true = and-left t more h in
       let n : networkOf file .head .size ≤ m = leb-true _ _ (rw begin-answer at u) in
       past-trans (list-past m (length (a .words)) (length (a .speeds)) cs z fresh begin-rel n (and-right t more h))
-      (rw begin-state (begun-past (start-store file mvs queues paces a (groundsAt a) refl refl no-refusal) n))
+      (rw begin-state (begun-past (start-store file mvs paces queues a (groundsAt a) refl refl no-refusal) n))
 
   -- whatever the book had before
   begin-book : (b : Book) → refusal begin (groundsIn (length (a .words)) (length (a .speeds)) b) ≡ 0

@@ -63,7 +63,7 @@ module _ (m : ℕ) where
     store-past : (c : Call) → refusal c (groundsIn words speeds b) ≡ 0 → (not (isStart (kindOf c)) || leb (broughtBy c) m) ≡ true → Past m (stored c a) a
     unfolding storedWords storedSpeeds
     store-past (start file mvs paces queues) e h =
-        begun-past (start-store file mvs queues paces a (groundsIn words speeds b) (r .words-long) (r .speeds-long) e) (leb-true _ _ h)
+        begun-past (start-store file mvs paces queues a (groundsIn words speeds b) (r .words-long) (r .speeds-long) e) (leb-true _ _ h)
     store-past (sign i limit compliance) e h = stored-past (sign-store r i limit compliance e)
     store-past (meter i setting) e h = stored-past (meter-store r i setting e)
     store-past (step ds) e h = stored-past (step-store r ds e)

@@ -1,26 +1,26 @@
 -- Where a study's parts lie: the network, the run count and the marks before the cases, and the cases apart from one another. So a store
 -- to one of them leaves the others.
-use Prim.Native.Nat.{ℕ, zero, suc, _+_, _*_, _≤_, _<_}
-use mathlib.Core.Path.{_≡_, refl, sym, ap, _∙_}
+use Prim.Native.Nat.{ℕ, suc, _+_, _*_, _≤_, _<_}
+use mathlib.Core.Path.{_≡_, refl, ap, _∙_}
 use mathlib.Core.Bool.{Bool, true, false, cond}
 use mathlib.Core.List.{List}
-use native.Mathlib.Nat.{suc-mul, mul-le-mul-left, mul-le-mul-right}
+use native.Mathlib.Nat.{suc-mul, mul-le-mul-right}
 use native.Mathlib.Decide.{decLt}
 use native.Mathlib.Omega.{arith}
 use lib.Dec.{eqb}
-use lib.ListN.{length, drop, getD, set}
+use lib.ListN.{length, getD, set}
 use lib.Seq.{getD-set-same, getD-set-other}
 use lib.Ieee.{Float}
 use borrow.Author.Tests.{eqb-true, eqb-false}
 use Rattle.laws.specs.Lists.{part}
-use Rattle.laws.proofs.Outside.{SameOutside, same-all, take-same, drop-same, getD-before, part-before, part-after, set-same}
+use Rattle.laws.proofs.Outside.{SameOutside, take-same, drop-same, getD-before, part-before, part-after, set-same}
 use Rattle.network.specs.Words.{headIn}
 use Rattle.model.specs.Case.{Case}
 use Rattle.model.specs.Words.{netOf, caseIn}
 use Rattle.study.specs.Arrangement.{runWord, markWord, caseLength, caseWord, caseSpeed, wordsFor, speedsFor, sizeAt, runCountAt, markAt, caseAt}
 use Rattle.study.specs.Perform.{Arrays}
 use Rattle.study.proofs.CaseParts.{case-same}
-use Rattle.study.proofs.Stored.{Fit, Stored}
+use Rattle.study.proofs.Stored.{Stored}
 
 -- ---- places
 
@@ -34,15 +34,9 @@ word-room n k h = omega (arith, gap k 7 (caseLength n) (omega arith))
 pub speed-room : (n k : ℕ) → k ≤ 6 → caseSpeed n k + n ≤ speedsFor n
 speed-room n k h = omega (arith, gap k 7 n (omega arith))
 
--- the lengths grow with the network
-pub words-grow : (n m : ℕ) → n ≤ m → wordsFor n ≤ wordsFor m
-words-grow n m h = omega arith
-
-pub speeds-grow : (n m : ℕ) → n ≤ m → speedsFor n ≤ speedsFor m
-speeds-grow n m h = omega arith
-
 -- places p and q, of width w, are those of two cases: a store to q leaves p
-module _ {A : Type 0} {l z : List A} (j k p q w : ℕ) (s : SameOutside q (q + w) l z) (other : j ≡ k → ⊥) (below : j < k → p + w ≤ q) (above : k < j → q + w ≤ p) where
+module _ {A : Type 0} {l z : List A} (j k p q w : ℕ) (s : SameOutside q (q + w) l z)
+    (other : j ≡ k → ⊥) (below : j < k → p + w ≤ q) (above : k < j → q + w ≤ p) where
   part-apart : part p w z ≡ part p w l
   part-apart = go (decLt j k)
     where

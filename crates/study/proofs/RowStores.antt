@@ -1,19 +1,18 @@
 -- A sign and a setting change one row of the live case, and nothing else.
 use Prim.Native.Nat.{ℕ, _+_, _-_, _*_, _≤_, _<_}
-use mathlib.Core.Path.{_≡_, refl, sym, ap, _∙_, subst}
+use mathlib.Core.Path.{_≡_, sym, ap, _∙_, subst}
 use mathlib.Core.List.{List}
-use native.Mathlib.Nat.{zero-mul}
 use native.Mathlib.Omega.{arith}
 use lib.IntN.{ℤ}
 use lib.ListN.{length, drop, getD, length-set}
 use lib.Ieee.{Float, nan}
 use Rattle.laws.specs.Lists.{part, putPart}
 use Rattle.laws.proofs.Lists.{getD-set, length-part}
-use Rattle.laws.proofs.Outside.{SameOutside, same-all, same-within}
+use Rattle.laws.proofs.Outside.{same-all, same-within}
 use Rattle.network.specs.Network.{segmentOf}
 use Rattle.model.specs.declared.Row.{Row}
 use Rattle.model.specs.Case.{Case, rowOf}
-use Rattle.model.specs.Words.{rowIn, rowAt, rowsIn, caseIn}
+use Rattle.model.specs.Words.{rowIn, caseIn}
 use Rattle.model.proofs.ReadBack.{row-take}
 use Rattle.model.proofs.SoundLaws.{row-read}
 use Rattle.study.specs.declared.Setting.{Setting}

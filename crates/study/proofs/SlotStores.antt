@@ -9,8 +9,7 @@ use lib.ListN.{length}
 use lib.Ieee.{Float}
 use Rattle.laws.specs.Lists.{part}
 use Rattle.laws.proofs.Lists.{length-part}
-use Rattle.laws.proofs.Outside.{SameOutside, same-all, put-same, part-put}
-use Rattle.model.specs.Words.{caseIn}
+use Rattle.laws.proofs.Outside.{same-all, put-same, part-put}
 use Rattle.study.specs.Arrangement.{caseLength, caseWord, caseSpeed, sizeAt, runCountAt, markAt, caseAt}
 use Rattle.study.specs.Calls.{hold, recall, dropSlot}
 use Rattle.study.specs.Perform.{Arrays, copiedWords, copiedSpeeds, storedWords, storedSpeeds}

@@ -1,13 +1,12 @@
 -- Start puts in the network and the start case, and leaves what is past the lengths that it needs.
-use Prim.Native.Nat.{ℕ, _+_, _*_, _≤_, _<_}
+use Prim.Native.Nat.{ℕ, _+_, _≤_, _<_}
 use mathlib.Core.Path.{_≡_, refl, sym, ap, _∙_}
 use mathlib.Core.List.{List, [], _∷_, _++_, append-assoc}
 use native.Mathlib.Nat.{zero-mul}
 use native.Mathlib.Omega.{arith}
 use lib.ListN.{length, drop, getD, replicate, length-append, length-drop, length-replicate, getD-replicate, List·getD-append}
 use lib.Seq.{take-at, drop-at, getD-drop}
-use lib.Ieee.{Float}
-use Rattle.laws.specs.Lists.{table, parts}
+use Rattle.laws.specs.Lists.{parts}
 use Rattle.laws.proofs.Lists.{length-table, length-parts}
 use Rattle.laws.proofs.Outside.{SameOutside, drop-same}
 use Rattle.network.specs.Network.{Network, networkFrom}

@@ -3,13 +3,12 @@ use Prim.Native.Nat.{ℕ, _+_, _*_, _≤_}
 use mathlib.Core.Path.{_≡_, sym, ap, _∙_, subst}
 use mathlib.Core.Bool.{true, not, _&&_, _||_}
 use mathlib.Core.List.{List, _++_}
-use native.Mathlib.Nat.{one-mul}
 use native.Mathlib.Omega.{arith}
 use lib.Dec.{ltb, leb, eqb}
-use lib.ListN.{length, take, drop, getD, length-set}
+use lib.ListN.{length, take, getD, length-set}
 use lib.Seq.{drop-drop}
 use lib.Ieee.{Float}
-use Rattle.laws.specs.Lists.{part, putPart}
+use Rattle.laws.specs.Lists.{part}
 use Rattle.laws.specs.Sums.{sumOf}
 use Rattle.laws.specs.First.{row, first}
 use Rattle.laws.proofs.First.{firstOf-ext}
@@ -20,7 +19,7 @@ use Rattle.network.specs.Network.{networkFrom, entryOf, segmentOf}
 use Rattle.network.specs.Words.{headIn, entryIn, segmentIn, networkIn}
 use Rattle.network.proofs.From.{from-segment}
 use Rattle.model.specs.Step.{vehiclesIn}
-use Rattle.model.specs.Words.{netOf, rowsIn, newWords, newSpeeds, stepWords, totalsWords, leaving, putTotals, stepCaseWords, stepCaseSpeeds}
+use Rattle.model.specs.Words.{netOf, rowsIn, newWords, newSpeeds, stepWords, totalsWords, leaving, stepCaseWords, stepCaseSpeeds}
 use Rattle.model.specs.Ready.{CaseAt, Ready, TotalsOk}
 use Rattle.model.specs.Sound.{stepsMost, arrivalNumber, stepNumber, stepNumberIn}
 use Rattle.model.proofs.SoundLaws.{case-ready, case-total}

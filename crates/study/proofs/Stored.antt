@@ -1,7 +1,6 @@
 -- What the arrays hold after a store, in records whose fields the laws of the calls read.
 use Prim.Native.Nat.{ℕ, _≤_}
 use mathlib.Core.Path.{_≡_}
-use mathlib.Core.List.{List}
 use lib.ListN.{length, drop}
 use Rattle.network.specs.Network.{Network}
 use Rattle.network.specs.Words.{keptNumber}

@@ -156,7 +156,7 @@ module _ {words speeds : ℕ} {a : Arrays} {b : Book} (r : Rel words speeds a b)
 
 -- ---- Start, on arrays of any content
 
-module _ (file mvs queues speeds : List ℕ) (a : Arrays) (g : Grounds) (many : length (a .words) ≡ g .words) (paced : length (a .speeds) ≡ g .speeds)
+module _ (file mvs speeds queues : List ℕ) (a : Arrays) (g : Grounds) (many : length (a .words) ≡ g .words) (paced : length (a .speeds) ≡ g .speeds)
     (e : refusal (start file mvs speeds queues) g ≡ 0) where
   abbrev w : Network
   w = networkOf file

@@ -68,6 +68,6 @@ pub(crate) fn put_setting(row: &mut [u64], most: u64, setting: Setting)
             gain,
             least,
             interval,
-        } => { put_figures(row, 2, most, target, gain, least, interval) }
+        } => put_figures(row, 2, most, target, gain, least, interval),
     }
 }

@@ -1,11 +1,11 @@
 -- Start: which row refuses it, and what it writes.
-use Prim.Native.Nat.{ℕ, _+_, _*_, _≤_, _<_}
+use Prim.Native.Nat.{ℕ, zero, suc, _+_, _*_, _≤_, _<_}
 use mathlib.Core.Path.{_≡_, refl, sym, ap, _∙_, subst}
 use mathlib.Core.Bool.{Bool, true, false, _||_, not}
 use mathlib.Core.List.{List, [], _∷_, _++_, append-assoc, append-nil}
 use native.Mathlib.Omega.{arith}
 use lib.Dec.{ltb, eqb, lit<}
-use lib.ListN.{length, getD, drop, replicate, length-append, length-take, drop-of-length-le}
+use lib.ListN.{length, getD, take, drop, replicate, length-append, length-take, drop-of-length-le}
 use lib.Ieee.{Float}
 use borrow.Author.Tests.{ltb-false, eqb-true, not-false}
 use Rattle.laws.specs.First.{anyOf, row, first, firstOf}
@@ -13,7 +13,7 @@ use Rattle.laws.specs.Lists.{table, part, putPart, parts, puts}
 use Rattle.laws.specs.Real.{real}
 use Rattle.laws.proofs.First.{row-applies, row-skipped, row-passed, row-later, first-some, first-zero, first-zero-left, first-zero-right, firstOf-ext}
 use Rattle.laws.proofs.Tests.{or-left, or-right, anyOf-false}
-use Rattle.laws.proofs.Lists.{getD-table, table-ext, parts-ext, length-parts}
+use Rattle.laws.proofs.Lists.{getD-table, table-ext, parts-ext, length-parts, length-part}
 use Rattle.laws.proofs.Puts.{put-after, puts-after}
 use Rattle.network.specs.declared.Segment.{Segment}
 use Rattle.network.specs.Network.{networkFrom, entryOf, segmentOf}
@@ -124,6 +124,19 @@ pub length-open : (mv queue most : ℕ) → length (openWords mv queue most) ≡
 unfolding openWords
 length-open mv queue most = refl
 
+pub open-whole : (mv queue most : ℕ) → take 16 (openWords mv queue most) ≡ openWords mv queue most
+unfolding openWords
+open-whole mv queue most = refl
+
+pub take-zeros : (m n : ℕ) → m ≤ n → take {A = ℕ} m (replicate n 0) ≡ replicate m 0
+take-zeros zero n h = refl
+take-zeros (suc m) zero h = absurd (omega arith)
+take-zeros (suc m) (suc n) h = ap (λ (l : List ℕ). 0 ∷ l) (take-zeros m n (omega arith))
+
+-- a part of 16, whose length the code computed as k
+pub part-long : (l : List ℕ) (at k : ℕ) → k ≡ 16 → at + 16 ≤ length l → length (part at k l) ≡ 16
+part-long l at k is h = ap (λ (m : ℕ). length (part at m l)) is ∙ length-part l at 16 h
+
 -- xs was written over all of a part of 16
 pub whole : (xs l : List ℕ) (at k : ℕ) → k ≡ 16 → xs ≡ xs ++ drop 16 (part at k l)
 whole xs l at k is =
@@ -144,7 +157,7 @@ module _ (b mvs queues words : List ℕ) (z : fileNumber b ≡ 0) where
       → kept ≡ keepWords b words → marked ≡ putPart 2560 16 (replicate 16 0) kept
       → rowed ≡ puts 16 (openWordsOn b mvs queues) 2576 n marked → last ≡ putPart (2576 + 16 * n) 8 (replicate 8 0) rowed
       → last ≡ beginWords b mvs queues n words
-  unfolding beginWords
+  unfolding beginWords networkFrom
   begun {n} {kept} {marked} {rowed} size long k m r l =
       let k' : kept ≡ keptWords (networkOf b) ++ drop 2560 words = k ∙ keep-is b words (keep-accepted b words z long) in
       let size-kept = length-kept (networkOf b) (network-within b z .head .curves-high) (network-within b z .head .size-high) in
@@ -152,11 +165,12 @@ module _ (b mvs queues words : List ℕ) (z : fileNumber b ≡ 0) where
       let r' : rowed ≡ (front ++ parts (openWordsOn b mvs queues) n) ++ drop (2576 + 16 * n) words = r ∙ puts-after words marked front 2576 16 (openWordsOn b mvs queues) n length-front m' in
       let long-rows : length (front ++ parts (openWordsOn b mvs queues) n) ≡ 2576 + 16 * n =
       length-append front (parts (openWordsOn b mvs queues) n) ∙ (λ j. length-front j + length-parts 16 (openWordsOn b mvs queues) n (λ i h. length-open _ _ _) j) in
+      let place : 2576 + 16 * n + 8 ≡ 2584 + 16 * n = omega arith in
       l
       ∙ put-after words rowed (front ++ parts (openWordsOn b mvs queues) n) (replicate 8 0) (2576 + 16 * n) 8 long-rows r'
       ∙ append-assoc (front ++ parts (openWordsOn b mvs queues) n) (replicate 8 0) (drop (2576 + 16 * n + 8) words)
       ∙ append-assoc front (parts (openWordsOn b mvs queues) n) (replicate 8 0 ++ drop (2576 + 16 * n + 8) words)
-      ∙ ap (λ (p : ℕ). front ++ (parts (openWordsOn b mvs queues) n ++ (replicate 8 0 ++ drop p words))) (omega arith)
+      ∙ ap (λ (p : ℕ). front ++ (parts (openWordsOn b mvs queues) n ++ (replicate 8 0 ++ drop p words))) place
 
 -- ---- and that is what Start stores
 

@@ -1,48 +1,31 @@
--- Laws of filling a list from the front of another, and of a part that goes over another part by way of a list that holds it.
-use Prim.Native.Nat.{ℕ, suc, _+_, _-_, _≤_, _<_}
-use native.Mathlib.Nat.{le-antisymm, le-of-eq}
-use native.Mathlib.Numerals.{add-one}
+-- Laws of a list that is filled from the front of another, and of a part that is copied over a part.
+use Prim.Native.Nat.{ℕ, _+_, _-_, _≤_, _<_}
+use native.Mathlib.Nat.{le-of-eq, zero-add}
 use native.Mathlib.Omega.{arith}
-use mathlib.Core.Path.{_≡_, refl, sym, ap, _∙_}
+use mathlib.Core.Path.{_≡_, sym, ap, _∙_}
 use mathlib.Core.List.{List, _++_, append-nil}
-use lib.ListN.{length, getD, set, take, drop, length-append, length-drop}
-use lib.Seq.{take-suc, drop-cons, set-at, append-snoc, length-take-le, drop-length, take-all, take-at, drop-drop}
+use lib.ListN.{length, getD, set, take, drop}
+use lib.Seq.{getD-take, length-take-le, take-all, take-at, drop-drop, drop-length}
 use Rattle.laws.specs.Lists.{part, putPart}
-use Rattle.laws.proofs.Lists.{length-part, span}
-
--- ---- a loop that fills dst from the front of src
+use Rattle.laws.proofs.Lists.{span, length-part}
+use Rattle.laws.proofs.Puts.{Stored, stored-length, stored-more, stored-all}
 
 -- of the list dst, the first i elements are those of src
-pub record FilledFrom {A : Type 0} (src dst out : List A) (i : ℕ) : Type 0 where
-  pub within : i ≤ length dst
-  pub is : out ≡ take i src ++ drop i dst
+abbrev pub FilledFrom : {A : Type 0} → List A → List A → List A → ℕ → Type 0
+FilledFrom src dst out i = Stored (take (length dst) src) 0 (length dst) dst out i
 
-module _ {A : Type 0} {src dst : List A} (enough : length dst ≤ length src) where
-  pub fill-none : FilledFrom src dst dst 0
-  fill-none = record { within = omega arith; is = refl }
+module _ {A : Type 0} (src dst : List A) (enough : length dst ≤ length src) {out : List A} {i : ℕ} (t : FilledFrom src dst out i) where
+  front : length (take (length dst) src) ≡ length dst
+  front = length-take-le (length dst) src enough
 
-  module _ {out : List A} {i : ℕ} (t : FilledFrom src dst out i) where
-    front : length (take i src) ≡ i
-    front = length-take-le i src (omega (arith, t .within, enough))
+  pub fill-length : length out ≡ length dst
+  fill-length = stored-length front (omega arith) t
 
-    pub fill-length : length out ≡ length dst
-    fill-length =
-        ap length (t .is) ∙ length-append (take i src) (drop i dst) ∙ (λ j. front j + length-drop i dst j) ∙ back i (length dst) (t .within)
-      where
-        back : (x y : ℕ) → x ≤ y → x + (y - x) ≡ y
-        back x y g = omega arith
+  pub fill-more : (d : A) → i < length dst → FilledFrom src dst (set out i (getD src i d)) (i + 1)
+  fill-more d h = stored-more front (omega arith) t d h (sym (zero-add i)) (sym (getD-take (length dst) src i d h))
 
-    pub fill-more : (d : A) → i < length dst → FilledFrom src dst (set out i (getD src i d)) (i + 1)
-    fill-more d h =
-        let step : set (take i src ++ drop i dst) i (getD src i d) ≡ take (i + 1) src ++ drop (i + 1) dst =
-        rw (add-one i, take-suc src i d (omega (arith, h, enough)), drop-cons dst i d h)
-        (set-at (take i src) (getD dst i d) (drop (suc i) dst) (getD src i d) i front
-        ∙ sym (append-snoc (take i src) (getD src i d) (drop (suc i) dst)))
-        in
-        record { within = omega arith; is = ap (λ (l : List A). set l i (getD src i d)) (t .is) ∙ step }
-
-    pub fill-all : length dst ≤ i → out ≡ take (length dst) src
-    fill-all end = t .is ∙ rw (le-antisymm (t .within) end) (rw drop-length (append-nil (take (length dst) src)))
+  pub fill-all : length dst ≤ i → out ≡ take (length dst) src
+  fill-all end = stored-all front (omega arith) t end ∙ rw (zero-add, drop-length) (append-nil (take (length dst) src))
 
 -- ---- a part of l that goes into the front of the list held, and from there over a second part of l
 

@@ -5,6 +5,7 @@ pub mod Good
 pub mod Rel
 pub mod Stepping
 pub mod Starting
+pub mod Beginning
 pub mod CaseSound
 pub mod Lines
 pub mod LineRows

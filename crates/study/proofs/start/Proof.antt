@@ -15,7 +15,8 @@ use Rattle.study.specs.Calls as calls
 use Rattle.study.specs.Perform.{lent, refusalAt, answerOf}
 use Rattle.study.specs.Ready.{beginWords}
 use Rattle.study.proofs.Performing.{refuses, accepts}
-use Rattle.study.proofs.Starting.{start-file, start-room, start-lane, start-listed, start-words, start-speeds}
+use Rattle.study.proofs.Starting.{start-file, start-room, start-lane, start-listed}
+use Rattle.study.proofs.Beginning.{start-words, start-speeds}
 use Rattle.study.proofs.start.Statement.{statement}
 use Rattle.study.proofs.start.Tie as tie
 

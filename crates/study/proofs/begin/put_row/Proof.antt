@@ -5,7 +5,7 @@ use lib.ListN.{take}
 use borrow.Author.Needs.{needs}
 use Rattle.network.specs.declared.Segment.{Segment}
 use Rattle.study.specs.Ready.{openWords}
-use Rattle.study.proofs.Starting.{open-whole}
+use Rattle.study.proofs.Beginning.{open-whole}
 use Rattle.study.proofs.begin.put_row.Statement.{statement}
 use Rattle.study.proofs.begin.put_row.Tie as tie
 

@@ -8,7 +8,7 @@ use borrow.Author.Needs.{needs}
 use Rattle.laws.proofs.Lists.{span, length-part}
 use Rattle.laws.proofs.Puts.{Filled, filled-none, filled-more, filled-length, filled-all}
 use Rattle.study.specs.Ready.{openWordsOn}
-use Rattle.study.proofs.Starting.{length-open, whole, part-long}
+use Rattle.study.proofs.Beginning.{length-open, whole, part-long}
 use Rattle.study.proofs.begin.put_rows.Statement.{statement}
 use Rattle.study.proofs.begin.put_rows.Tie as tie
 

@@ -4,7 +4,8 @@ use mathlib.Core.Path.{_≡_, _∙_}
 use native.Mathlib.Omega.{arith}
 use lib.ListN.{length, length-set}
 use borrow.Author.Needs.{needs}
-use Rattle.laws.proofs.Fill.{FilledFrom, fill-none, fill-length, fill-more, fill-all}
+use Rattle.laws.proofs.Puts.{stored-none}
+use Rattle.laws.proofs.Fill.{FilledFrom, fill-length, fill-more, fill-all}
 use Rattle.study.proofs.copy.fill_words.Statement.{statement}
 use Rattle.study.proofs.copy.fill_words.Tie as tie
 
@@ -15,13 +16,13 @@ abbrev μ-loop : tie.MeasureT-loop
 μ-loop dst₀ src i₀ dst i = length dst₀ - i
 
 long : (c : tie.At-loop Inv-loop μ-loop) → length (c .loop .dst) ≡ length (c .before .args .dst .now)
-long c = fill-length (c .before .pre) (c .loop .inv)
+long c = let s = c .before in fill-length (s .args .src .now) (s .args .dst .now) (s .pre) (c .loop .inv)
 
 loop-again : tie.Need-loop-again Inv-loop μ-loop
-loop-again c = let l = c .before .before in fill-more (l .before .pre) (l .loop .inv) _ (omega (arith, long l))
+loop-again c = let l = c .before .before in fill-more (l .before .args .src .now) (l .before .args .dst .now) (l .before .pre) (l .loop .inv) _ (omega (arith, long l))
 
 returns : tie.Need-returns Inv-loop μ-loop
-returns c = fill-all (c .before .before .pre) (c .before .loop .inv) (omega (arith, long (c .before)))
+returns c = let s = c .before .before in fill-all (s .args .src .now) (s .args .dst .now) (s .pre) (c .before .loop .inv) (omega (arith, long (c .before)))
 
 pub fill-words-spec : {M : Type 1} → statement M
 fill-words-spec =
@@ -29,7 +30,7 @@ fill-words-spec =
     (tie.spec
     Inv-loop
     μ-loop
-    (λ c. fill-none (c .pre))
+    (λ c. stored-none)
     (λ c. search needs)
     (λ c. omega (arith, long (c .before .before)))
     (λ c. search needs)

@@ -83,64 +83,66 @@ impl Scene<'_> {
     }
 
     fn sign(&self, random: &mut Random, right: bool) -> Call {
-        let wrong = wrong_one(random, 3, right);
+        let wrong = Wrong::of(random, 3, right);
         let (mut limit, mut compliance) = match sign(random) {
             Sign::Dark => (0, random.edge(0, 1000) as i64 - 500),
             Sign::Shown { limit, compliance } => (limit, compliance),
         };
-        if wrong == 1 {
+        if wrong.has(1) {
             limit = random.outside(20, 200, u64::MAX).max(1);
         }
-        if wrong == 2 {
+        if wrong.has(2) {
             let far = random.outside(0, 500, i64::MAX as u64) as i64;
             compliance = if random.once_in(2) { far } else { -far };
         }
         Call::Sign {
-            segment: self.segment(random, wrong == 0),
+            segment: self.segment(random, wrong.has(0)),
             limit,
             compliance,
         }
     }
 
     fn meter(&self, random: &mut Random, right: bool, make: MakeSetting) -> Call {
-        let wrong = wrong_one(random, 3, right);
+        let wrong = Wrong::of(random, 3, right);
         let ramp = |place: usize| place > 0 && self.network.segments[place].origin;
         let places = 0..self.network.segments.len();
-        let fits = |place: &usize| ramp(*place) == (wrong != 1);
+        let fits = |place: &usize| ramp(*place) != wrong.has(1);
         let segments: Vec<u64> = places.filter(fits).map(|place| place as u64 + 1).collect();
-        let segment = match segments.is_empty() || wrong == 0 {
-            true => self.segment(random, wrong == 0),
+        let segment = match segments.is_empty() || wrong.has(0) {
+            true => self.segment(random, wrong.has(0)),
             false => random.one_of(&segments),
         };
         let place = segment.clamp(1, self.network.segments.len() as u64) as usize - 1;
-        let setting = make(random, &self.network.segments[place], wrong != 2);
+        let setting = make(random, &self.network.segments[place], !wrong.has(2));
         Call::Meter { segment, setting }
     }
 
     fn step(&self, random: &mut Random, right: bool) -> Call {
         let mut arrivals = arrivals(random, self.network);
-        match wrong_one(random, 2, right) {
-            0 => spoil_length(random, &mut arrivals),
-            1 => spoil_arrival(random, self.network, &mut arrivals),
-            _ => {}
+        let wrong = Wrong::of(random, 2, right);
+        if wrong.has(1) {
+            spoil_arrival(random, self.network, &mut arrivals);
+        }
+        if wrong.has(0) {
+            spoil_length(random, &mut arrivals);
         }
         Call::Step(arrivals.into())
     }
 
     fn report(&self, random: &mut Random, right: bool) -> Call {
-        let wrong = wrong_one(random, 2, right);
+        let wrong = Wrong::of(random, 2, right);
         Call::Report {
-            case: self.case(random, wrong != 0),
-            room: room(random, CASE_FIGURES, wrong != 1),
+            case: self.case(random, !wrong.has(0)),
+            room: room(random, CASE_FIGURES, !wrong.has(1)),
         }
     }
 
     fn report_segment(&self, random: &mut Random, right: bool) -> Call {
-        let wrong = wrong_one(random, 4, right);
+        let wrong = Wrong::of(random, 3, right);
         Call::ReportSegment {
-            case: self.case(random, wrong % 3 != 0),
-            segment: self.segment(random, wrong == 1 || wrong == 3),
-            room: room(random, SEGMENT_FIGURES, wrong != 2),
+            case: self.case(random, !wrong.has(0)),
+            segment: self.segment(random, wrong.has(1)),
+            room: room(random, SEGMENT_FIGURES, !wrong.has(2)),
         }
     }
 
@@ -203,12 +205,12 @@ fn fixed(random: &mut Random, segment: &Segment, right: bool) -> Setting {
 /// ALINEA, all of it in range or one of its figures out of it.
 fn alinea(random: &mut Random, segment: &Segment, right: bool) -> Setting {
     let most = u64::from(segment.most_released);
-    let wrong = wrong_one(random, 4, right);
+    let wrong = Wrong::of(random, 4, right);
     Setting::Alinea(Alinea {
-        target: within(random, 1, 199, wrong != 0),
-        gain: within(random, 1, 60_000, wrong != 1),
-        least: within(random, 0, most, wrong != 2),
-        interval: within(random, 1, 60, wrong != 3),
+        target: within(random, 1, 199, !wrong.has(0)),
+        gain: within(random, 1, 60_000, !wrong.has(1)),
+        least: within(random, 0, most, !wrong.has(2)),
+        interval: within(random, 1, 60, !wrong.has(3)),
     })
 }
 
@@ -219,11 +221,23 @@ fn within(random: &mut Random, low: u64, high: u64, right: bool) -> u64 {
     }
 }
 
-/// Which of so many things is wrong, from 0; all of them where none is.
-fn wrong_one(random: &mut Random, things: u64, right: bool) -> u64 {
-    match right {
-        true => things,
-        false => random.below(things),
+/// Which things of a call are wrong, a bit each.
+#[derive(Clone, Copy)]
+struct Wrong(u64);
+
+impl Wrong {
+    /// None of so many things where the call is right; else one, or some.
+    fn of(random: &mut Random, things: u64, right: bool) -> Wrong {
+        Wrong(match (right, random.once_in(4)) {
+            (true, _) => 0,
+            (false, true) => random.between(1, (1 << things) - 1),
+            (false, false) => 1 << random.below(things),
+        })
+    }
+
+    /// Whether that thing, from 0, is wrong.
+    fn has(self, thing: u64) -> bool {
+        self.0 >> thing & 1 == 1
     }
 }
 

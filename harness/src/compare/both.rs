@@ -65,9 +65,13 @@ impl Both {
         let words = &self.first.words;
         let speeds = speeds.collect::<Vec<_>>();
         writeln!(input, "lent {lent:?}\nwords {words:?}\nbits {speeds:?}").expect("a string grows");
-        let last = self.calls.last().map(Call::function);
+        let last = self
+            .calls
+            .last()
+            .map(|call| format!(", {:?}", call.function()));
+        let last = last.unwrap_or_default();
         Difference {
-            what: format!("call {}, {last:?}: {what}", self.calls.len()),
+            what: format!("call {}{last}: {what}", self.calls.len()),
             input: input.into_bytes(),
         }
     }

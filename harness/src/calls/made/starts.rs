@@ -1,6 +1,6 @@
 //! Start: right, or with something wrong in the file or in a list.
 
-use super::wrong_one;
+use super::Wrong;
 use crate::calls::Start;
 use crate::damages::{in_turn, FILE};
 use crate::draft::{Draft, HEAD};
@@ -18,11 +18,15 @@ const WIDEST: u64 = u32::MAX as u64;
 pub fn start(random: &mut Random, networks: &[Network], right: bool) -> Start {
     let chosen = random.below(networks.len() as u64) as usize;
     let mut start = good_start(random, &networks[chosen]);
-    match wrong_one(random, 4, right) {
-        0 | 1 => start.file = damaged_file(random),
-        2 => spoil_lengths(random, &mut start),
-        3 => spoil_figure(random, &networks[chosen], &mut start),
-        _ => {}
+    let wrong = Wrong::of(random, 4, right);
+    if wrong.has(3) {
+        spoil_figure(random, &networks[chosen], &mut start);
+    }
+    if wrong.has(2) {
+        spoil_lengths(random, &mut start);
+    }
+    if wrong.has(0) || wrong.has(1) {
+        start.file = damaged_file(random);
     }
     start
 }

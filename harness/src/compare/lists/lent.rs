@@ -23,7 +23,7 @@ pub fn arrays(random: &mut Random, n: usize, turn: u64) -> Arrays {
         3 if n > 1 => speeds -= 1,
         _ => {}
     }
-    let behind = if turn % 2 == 0 { 0 } else { BEHIND };
+    let behind = if turn.is_multiple_of(2) { 0 } else { BEHIND };
     let all_words = (0..words + behind).map(|_| garbage(random)).collect();
     let all_speeds = (0..speeds + behind).map(|_| odd_speed(random)).collect();
     Arrays {

@@ -99,7 +99,7 @@ pub fn garbage(random: &mut Random, turn: u64) -> Made {
         6 => case_word(n, 0),
         _ => case_word(n, random.below(SLOTS as u64 + 1) as usize),
     };
-    let any = turn % 2 == 0;
+    let any = turn.is_multiple_of(2);
     for word in &mut arrays.words[kept..] {
         *word = if any {
             random.number()

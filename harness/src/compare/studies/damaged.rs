@@ -80,6 +80,11 @@ pub fn lengths(random: &mut Random, turn: u64) -> Made {
         _ => (words, random.below(speeds as u64) as usize),
     };
     let (words, speeds) = (arrays.lent_words, arrays.lent_speeds);
+    if random.once_in(2) {
+        // They end there, so that a memory checker sees any touch past it.
+        arrays.words = arrays.words[..words].into();
+        arrays.speeds = arrays.speeds[..speeds].into();
+    }
     Made {
         what: format!("{words} words and {speeds} speeds for {n} segments"),
         study,

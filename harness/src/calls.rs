@@ -129,6 +129,17 @@ impl Answer {
         }
     }
 
+    /// How this answer of the engine differs from the expected one, in words.
+    pub fn beside(&self, expected: &Answer) -> String {
+        let numbers = (expected.number, self.number);
+        let figures = (&expected.figures, &self.figures);
+        match (numbers.0 == numbers.1, figures.0 == figures.1) {
+            (false, _) => format!("expected {}, engine {}", numbers.0, numbers.1),
+            (true, false) => format!("expected {:?}, engine {:?}", figures.0, figures.1),
+            (true, true) => "other bytes written than expected".into(),
+        }
+    }
+
     /// The figures of a report from the buffer's beginning on, or 24.
     fn give(&mut self, figures: &[u64]) {
         match self.figures.get_mut(..figures.len()) {

@@ -1,13 +1,15 @@
 //! Random calls on a study: right ones, and such that some row refuses them.
 
+mod settings;
 mod starts;
 
 use super::{Call, Function};
 use crate::cases::{arrivals, sign, spoil_arrival, spoil_length};
 use crate::random::Random;
 use oracle::book::SLOTS;
-use oracle::case::{Alinea, Setting, Sign};
-use oracle::file::{Network, Segment};
+use oracle::case::Sign;
+use oracle::file::Network;
+use settings::{alinea, fixed, open, MakeSetting};
 pub use starts::good_start;
 
 /// Figures of a report of a case, of a segment and of the run count.
@@ -188,36 +190,6 @@ impl Scene<'_> {
 
     fn file_length(&self) -> usize {
         16 + 804 * self.network.curves.len() + 16 * self.network.segments.len()
-    }
-}
-
-type MakeSetting = fn(&mut Random, &Segment, bool) -> Setting;
-
-fn open(_: &mut Random, _: &Segment, _: bool) -> Setting {
-    Setting::Open
-}
-
-fn fixed(random: &mut Random, segment: &Segment, right: bool) -> Setting {
-    let most = u64::from(segment.most_released);
-    Setting::Fixed(within(random, 0, most, right))
-}
-
-/// ALINEA, all of it in range or one of its figures out of it.
-fn alinea(random: &mut Random, segment: &Segment, right: bool) -> Setting {
-    let most = u64::from(segment.most_released);
-    let wrong = Wrong::of(random, 4, right);
-    Setting::Alinea(Alinea {
-        target: within(random, 1, 199, !wrong.has(0)),
-        gain: within(random, 1, 60_000, !wrong.has(1)),
-        least: within(random, 0, most, !wrong.has(2)),
-        interval: within(random, 1, 60, !wrong.has(3)),
-    })
-}
-
-fn within(random: &mut Random, low: u64, high: u64, right: bool) -> u64 {
-    match right {
-        true => random.edge(low, high),
-        false => random.outside(low, high, u64::MAX),
     }
 }
 

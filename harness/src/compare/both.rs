@@ -42,7 +42,7 @@ impl Both {
         let oracle = ask_arrays(words, speeds, &call);
         self.calls.push(call);
         if engine != oracle {
-            return Err(self.differs(&format!("expected {oracle:?}, engine {engine:?}")));
+            return Err(self.differs(&engine.beside(&oracle)));
         }
         if !self.engine.same(&self.oracle) {
             let what = first_difference(&self.oracle, &self.engine);

@@ -89,8 +89,8 @@ impl List {
         let answer = self.both.take(call)?;
         match expected {
             Some(expected) if expected != answer => {
-                let what = format!("book {expected:?}, arrays {answer:?}");
-                Err(self.both.differs(&what))
+                let what = answer.beside(&expected);
+                Err(self.both.differs(&format!("by the book {what}")))
             }
             _ => Ok(()),
         }

@@ -9,6 +9,7 @@ use super::Difference;
 use crate::calls::{ask_book, begin_book, good_start, Answer, Call, Scene};
 use crate::networks::{calm_road, road};
 use crate::random::Random;
+use crate::study::{speeds_for, words_for};
 use oracle::book::{Book, Lengths, SLOTS};
 use oracle::file::Network;
 
@@ -21,7 +22,8 @@ const SEGMENTS: [u64; 6] = [2, 12, 40, 1, 5, 0];
 
 /// A list in turn, with what the book makes of it.
 struct List {
-    /// The second is the smallest; the last may be too large for the arrays.
+    /// The second fits the arrays in any case; the first may be one word or
+    /// one speed too large for them, and the third far too large.
     networks: Vec<Network>,
     lengths: Lengths,
     both: Both,
@@ -67,10 +69,19 @@ impl List {
     fn next(&self, random: &mut Random, turn: u64) -> Call {
         let started = self.book.is_some();
         if !started && (turn >= LATEST_START || random.once_in(2)) {
-            return Call::Start(good_start(random, &self.networks[1]));
+            let first = self.first(random);
+            return Call::Start(good_start(random, &self.networks[first]));
         }
         let right = random.below(10) < 7;
         self.scene().any(random, right)
+    }
+
+    /// The network of the first right Start: the largest where it fits, most
+    /// of the time.
+    fn first(&self, random: &mut Random) -> usize {
+        let n = self.networks[0].segments.len();
+        let fits = self.lengths.words >= words_for(n) && self.lengths.speeds >= speeds_for(n);
+        usize::from(!fits || random.once_in(4))
     }
 
     fn scene(&self) -> Scene<'_> {

@@ -5,6 +5,7 @@ mod starts;
 
 use super::{Call, Function};
 use crate::cases::{arrivals, sign, spoil_arrival, spoil_length};
+use crate::damages::outside;
 use crate::random::Random;
 use oracle::book::SLOTS;
 use oracle::case::Sign;
@@ -91,11 +92,10 @@ impl Scene<'_> {
             Sign::Shown { limit, compliance } => (limit, compliance),
         };
         if wrong.has(1) {
-            limit = random.outside(20, 200, u64::MAX).max(1);
+            limit = out_of(random, 20, 200).max(1);
         }
         if wrong.has(2) {
-            let far = random.outside(0, 500, i64::MAX as u64) as i64;
-            compliance = if random.once_in(2) { far } else { -far };
+            compliance = far_compliance(random);
         }
         Call::Sign {
             segment: self.segment(random, wrong.has(0)),
@@ -164,7 +164,7 @@ impl Scene<'_> {
     /// that is not, or none of the six.
     fn slot(&self, random: &mut Random, right: bool, filled: bool) -> u64 {
         if !right && random.once_in(2) {
-            return random.outside(1, SLOTS as u64, u64::MAX);
+            return out_of(random, 1, SLOTS as u64);
         }
         let wanted = filled == right;
         let fits = |&slot: &u64| self.holds(slot) == wanted;
@@ -183,7 +183,7 @@ impl Scene<'_> {
     fn segment(&self, random: &mut Random, outside: bool) -> u64 {
         let n = self.network.segments.len() as u64;
         match outside {
-            true => random.outside(1, n, u64::MAX),
+            true => out_of(random, 1, n),
             false => random.edge(1, n),
         }
     }
@@ -210,6 +210,23 @@ impl Wrong {
     /// Whether that thing, from 0, is wrong.
     fn has(self, thing: u64) -> bool {
         self.0 >> thing & 1 == 1
+    }
+}
+
+/// A number outside `low..=high`: beside an end, far off, or right in its
+/// lowest bits alone.
+fn out_of(random: &mut Random, low: u64, high: u64) -> u64 {
+    outside(random.between(low, high), low, high, random)
+}
+
+/// A compliance outside −500..500, on either side.
+fn far_compliance(random: &mut Random) -> i64 {
+    let far = out_of(random, 0, 500) & i64::MAX as u64;
+    let far = far.max(501) as i64;
+    match random.below(5) {
+        0 | 1 => far,
+        2 | 3 => -far,
+        _ => i64::MIN,
     }
 }
 

@@ -1,6 +1,6 @@
 //! Settings of a meter: in range, or out of it.
 
-use super::Wrong;
+use super::{out_of, Wrong};
 use crate::random::Random;
 use oracle::case::{Alinea, Setting};
 use oracle::file::Segment;
@@ -32,6 +32,6 @@ pub fn alinea(random: &mut Random, segment: &Segment, right: bool) -> Setting {
 fn within(random: &mut Random, low: u64, high: u64, right: bool) -> u64 {
     match right {
         true => random.edge(low, high),
-        false => random.outside(low, high, u64::MAX),
+        false => out_of(random, low, high),
     }
 }

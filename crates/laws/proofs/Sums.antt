@@ -22,6 +22,17 @@ sum-term f (suc n) i l =
     (λ lt. omega (arith, sum-term f n i lt))
     (eq-or-lt-of-le (le-of-suc-le-suc l))
 
+-- terms of at most b each
+pub sum-high : (f : ℕ → ℕ) (b n : ℕ) → ((i : ℕ) → i < n → f i ≤ b) → sumOf f n ≤ b * n
+unfolding sumOf
+sum-high f b zero h = omega arith
+sum-high f b (suc n) h = omega (arith, sum-high f b n (λ i k. h i (omega arith)), h n (omega arith))
+
+pub sum-add : (f g : ℕ → ℕ) (n : ℕ) → sumOf (λ i. f i + g i) n ≡ sumOf f n + sumOf g n
+unfolding sumOf
+sum-add f g zero = refl
+sum-add f g (suc n) = omega (arith, sum-add f g n)
+
 -- s is the sum of f below i, each of whose terms is at most b
 pub record Summed (f : ℕ → ℕ) (b i s : ℕ) : Type 0 where
   pub is : s ≡ sumOf f i

@@ -49,7 +49,7 @@ T-true : (b : Bool) → T b → b ≡ true
 T-true true t = refl
 T-true false t = absurd t
 
-within-good : (f : ℕ) (v : Float) → Within f v → speedBad f v ≡ false
+pub within-good : (f : ℕ) (v : Float) → Within f v → speedBad f v ≡ false
 unfolding speedBad
 within-good f v w = λ j. not (T-true (le (real 1000) v) (w .low) j && T-true (le v (real f)) (w .high) j)
 

@@ -1,25 +1,29 @@
--- A step looks at nothing of a network but what its head says is there: networks that agree on that give the same step.
+-- A step, and the rows that judge a case and a step, look at nothing of a network but what its head says is there: networks that agree on
+-- that give the same.
 use Prim.Native.Nat.{ℕ, zero, suc, _+_, _*_, _/_, _≤_, _<_}
 use mathlib.Core.Path.{_≡_, refl, ap, _∙_}
-use mathlib.Core.Bool.{Bool, true, false}
+use mathlib.Core.Bool.{Bool, true, false, _&&_, _||_, not}
 use mathlib.Core.List.{List}
 use native.Mathlib.Omega.{arith}
-use lib.Dec.{ltb, leb, lit<}
-use lib.ListN.{getD}
+use lib.Dec.{ltb, leb, eqb, lit<}
+use lib.ListN.{length, getD}
 use lib.Ieee.{Float}
 use borrow.Author.Tests.{ltb-true, leb-false}
+use Rattle.laws.specs.First.{row, first}
 use Rattle.laws.specs.Sums.{sumOf}
+use Rattle.laws.proofs.First.{firstOf-ext}
 use Rattle.laws.proofs.Lists.{table-ext}
 use Rattle.laws.proofs.Sums.{sum-ext}
 use Rattle.network.specs.declared.Head.{Head}
 use Rattle.network.specs.declared.Segment.{Segment}
-use Rattle.network.specs.Network.{networkFrom, entryOf, segmentOf}
+use Rattle.network.specs.Network.{Network, networkFrom, entryOf, segmentOf}
 use Rattle.network.proofs.From.{from-entry, from-segment}
 use Rattle.model.specs.declared.Row.{Row}
 use Rattle.model.specs.Case.{Case, rowOf}
 use Rattle.model.specs.Flow.{exitPart}
 use Rattle.model.specs.Speed.{area, curveSpeed, signed}
 use Rattle.model.specs.Step.{signOf, desiredSpeed, outflowNow, through, made, vehiclesIn, upstream, inflow, downstream, freeSpeed, merges, stepRow, stepRows, exitNow, exitsNow, stepOn, stepCase}
+use Rattle.model.specs.Sound.{stepsMost, rowBad, totalsBad, rowNumber, caseNumber, arrivalNumber, stepNumber}
 
 -- the speed of a curve, from the entries up to 200
 curve-speed-same : (e f : ℕ → ℕ) (n g : ℕ) → ((j : ℕ) → j < 201 → e j ≡ f j) → curveSpeed e n g ≡ curveSpeed f n g
@@ -67,6 +71,28 @@ module _ (h : Head) (e f : ℕ → ℕ → ℕ) (s u : ℕ → Segment)
     exits-same : exitsNow h e s rows ≡ exitsNow h f u rows
     exits-same = λ j. sum-ext (exitNow h e s rows) (exitNow h f u rows) (h .size) exit-same j + inflow-same (h .size) (omega arith) j
 
+  -- ---- what judges a case, and a step's arrivals
+  row-number-same : (rows : List Row) (i : ℕ) → i < h .size → rowNumber h e s rows i ≡ rowNumber h f u rows i
+  unfolding rowNumber
+  row-number-same rows i l = λ j. row (rowBad (merges h f (λ k. segments i l j) i) (segments i l j) (free-same i l j) (rowOf rows i)) 12 0
+
+  pub case-number-same : (c : Case) → caseNumber h e s c ≡ caseNumber h f u c
+  unfolding caseNumber
+  case-number-same c =
+      ap (λ (m : ℕ). first m (row (totalsBad (sumOf (vehiclesIn (c .rows)) (h .size)) (c .steps) (c .arrivals) (c .exits) (c .time)) 12 0))
+      (firstOf-ext (rowNumber h e s (c .rows)) (rowNumber h f u (c .rows)) (h .size) (row-number-same (c .rows)))
+
+  arrival-number-same : (ds : List ℕ) (i : ℕ) → i < h .size → arrivalNumber h e s ds i ≡ arrivalNumber h f u ds i
+  unfolding arrivalNumber
+  arrival-number-same ds i l =
+      ap (λ (x : Segment). row (ltb 1000000 (getD ds i 0) || (eqb (x .origin) 0 && ltb 0 (getD ds i 0))) 15 0) (segments i l)
+
+  pub step-number-same : (steps : ℕ) (ds : List ℕ) → stepNumber h e s steps ds ≡ stepNumber h f u steps ds
+  unfolding stepNumber
+  step-number-same steps ds =
+      ap (λ (m : ℕ). row (not (eqb (length ds) (h .size))) 13 (first m (row (leb stepsMost steps) 16 0)))
+      (firstOf-ext (arrivalNumber h e s ds) (arrivalNumber h f u ds) (h .size) (arrival-number-same ds))
+
   pub step-same : (c : Case) (ds : List ℕ) → stepOn h e s c ds ≡ stepOn h f u c ds
   unfolding stepOn stepRows
   step-same c ds =
@@ -78,10 +104,30 @@ module _ (h : Head) (e f : ℕ → ℕ → ℕ) (s u : ℕ → Segment)
         time = c .time + h .step * sumOf (vehiclesIn (c .rows)) (h .size);
       }
 
--- a step on the network that is given by head, entries and segments
-pub step-from : (h : Head) (entry : ℕ → ℕ → ℕ) (segment : ℕ → Segment) → ((i : ℕ) → i < h .size → segment i .curve < h .curves)
-    → (c : Case) (ds : List ℕ) → stepCase (networkFrom h entry segment) c ds ≡ stepOn h entry segment c ds
-unfolding networkFrom
-step-from h entry segment curves c ds =
-    step-same h (entryOf (networkFrom h entry segment)) entry (segmentOf (networkFrom h entry segment)) segment (from-entry h entry segment) (from-segment h entry segment)
-    (λ i l. rw (from-segment h entry segment i l) (curves i l)) c ds
+-- ---- the network that is given by head, entries and segments
+
+module _ (h : Head) (entry : ℕ → ℕ → ℕ) (segment : ℕ → Segment) (curves : (i : ℕ) → i < h .size → segment i .curve < h .curves) where
+  abbrev given : Network
+  given = networkFrom h entry segment
+
+  curve-there : (i : ℕ) → i < h .size → segmentOf given i .curve < h .curves
+  curve-there i l = rw (from-segment h entry segment i l) (curves i l)
+
+  -- a step on it
+  pub step-from : (c : Case) (ds : List ℕ) → stepCase given c ds ≡ stepOn h entry segment c ds
+  unfolding networkFrom
+  step-from c ds =
+      step-same h (entryOf given) entry (segmentOf given) segment (from-entry h entry segment) (from-segment h entry segment) curve-there c ds
+
+  -- 12 of a case on it
+  pub case-number-from : (c : Case) → caseNumber (given .head) (entryOf given) (segmentOf given) c ≡ caseNumber h entry segment c
+  unfolding networkFrom
+  case-number-from c =
+      case-number-same h (entryOf given) entry (segmentOf given) segment (from-entry h entry segment) (from-segment h entry segment) curve-there c
+
+  -- 13, 15 and 16 of a step on it
+  pub step-number-from : (steps : ℕ) (ds : List ℕ)
+      → stepNumber (given .head) (entryOf given) (segmentOf given) steps ds ≡ stepNumber h entry segment steps ds
+  unfolding networkFrom
+  step-number-from steps ds =
+      step-number-same h (entryOf given) entry (segmentOf given) segment (from-entry h entry segment) (from-segment h entry segment) curve-there steps ds

@@ -6,4 +6,7 @@ pub mod RoundTrip
 pub mod Writing
 pub mod Reading
 pub mod Keeping
+pub mod Kept
+pub mod KeepCall
+pub mod KeptFile
 pub mod Marked

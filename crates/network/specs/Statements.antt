@@ -1,11 +1,14 @@
--- What is shown of the file and its network. The theorems are in proofs/: round-trip, network-accepted, read-back, file-accepted-of.
-use Prim.Native.Nat.{ℕ}
+-- What is shown of the file, its network and its words. The theorems are in proofs/: round-trip, network-accepted, read-back,
+-- file-accepted-of, kept-file, kept-network, kept-write.
+use Prim.Native.Nat.{ℕ, _≤_}
 use mathlib.Core.Path.{_≡_}
-use mathlib.Core.List.{List}
+use mathlib.Core.List.{List, _++_}
+use lib.ListN.{length, drop}
 use Rattle.laws.specs.BigEndian.{Bytes}
 use Rattle.network.specs.Network.{Network, networkNumber}
 use Rattle.network.specs.File.{fileNumber, networkOf}
 use Rattle.network.specs.Written.{fileOf}
+use Rattle.network.specs.Words.{networkIn, keptNumber, keptWords, writeBytes}
 use Rattle.network.specs.Accepted.{Formed}
 
 -- an accepted network writes back to the same bytes
@@ -23,3 +26,15 @@ ReadsBack = (w : Network) → networkNumber w ≡ 0 → Formed w → networkOf (
 -- and its file is accepted
 abbrev pub FileAccepted : Type 0
 FileAccepted = (w : Network) → networkNumber w ≡ 0 → fileNumber (fileOf w) ≡ 0
+
+-- the network of an accepted file, kept in words, is accepted there
+abbrev pub KeptAccepted : Type 0
+KeptAccepted = (b : List ℕ) → fileNumber b ≡ 0 → keptNumber (keptWords (networkOf b)) ≡ 0
+
+-- and is read back from them
+abbrev pub KeptHolds : Type 0
+KeptHolds = (b : List ℕ) → fileNumber b ≡ 0 → networkIn (keptWords (networkOf b)) ≡ networkOf b
+
+-- and writes back to the same bytes
+abbrev pub KeptWritesBack : Type 0
+KeptWritesBack = (b out : List ℕ) → Bytes b → fileNumber b ≡ 0 → length b ≤ length out → writeBytes (keptWords (networkOf b)) out ≡ b ++ drop (length b) out

@@ -1,15 +1,16 @@
-// The network file: read or refused by a number, its curves shown as the file's own bytes, and a kept network written back.
+// The network file: read or refused by a number, its curves shown as the file's own bytes, its network kept in words and written back.
 mod number; // number.rt: big-endian numbers in bytes
 mod heads; // heads.rt: the first 16 bytes, rows 1 to 5
 mod curves; // curves.rt: a curve's entries, row 6
 mod records; // records.rt: a segment's 16 bytes, rows 7 and 8
 mod words; // words.rt: a network kept in words, rows 4, 6, 7 and 8
+mod keeper; // keeper.rt: a file's network into words
 mod writer; // writer.rt: a kept network as bytes
 
 ghost use mathlib.Core.Path.{_≡_};
-ghost use Rattle.network.specs.File.{headOf, segmentOn, fileNumber};
+ghost use Rattle.network.specs.File.{headOf, entryOn, segmentOn, fileNumber};
 ghost use Rattle.network.specs.Curve.{curveCallNumber, curveBytes};
-ghost use Rattle.network.specs.Words.{headIn, entryIn, segmentIn, keptNumber, writeNumber, writeBytes};
+ghost use Rattle.network.specs.Words.{headIn, entryIn, segmentIn, keptNumber, writeNumber, writeBytes, keepNumber, keepWords};
 
 // The numbers of the head: the step T in seconds, the number of segments n, the number of curves c, then τ in seconds, ν in km²/h,
 // κ in veh/km/lane and δ in thousandths.
@@ -87,6 +88,13 @@ pub fn head_of(file: &[u8]) -> Head
     heads::read_head(file)
 }
 
+// Entry j of curve k, both counted from 0, of a file of any content; a byte past its end reads as 0.
+pub fn entry_of(file: &[u8], k: u32, j: u32) -> u64
+    ensures { λ r. ⌜ r ≡ entryOn (now (file .entry)) k j ⌝ }
+{
+    number::u32_at(file, 16 + 804 * (k as usize) + 4 * (j as usize))
+}
+
 // Segment i, counted from 0, of a file of any content; a byte past its end reads as 0.
 pub fn segment_of(file: &[u8], i: u32) -> Segment
     ensures { λ r. ⌜ r ≡ segmentOn (now (file .entry)) i ⌝ }
@@ -142,5 +150,23 @@ pub fn write(kept: &[u64], out: &mut [u8]) -> u64
         return 24;
     }
     writer::put_network(kept, h, out);
+    0
+}
+
+// Keeps the network of a file, which was judged by check, in the first 2,560 words; later words stay. Gives 4 where there is no room
+// for the curves or the segments that the head says, 11 where the words are too few, and 0 where the network is kept; a refused call
+// leaves the words as they came.
+pub fn keep(file: &[u8], words: &mut [u64]) -> u64
+    ensures { λ r. ⌜ r ≡ keepNumber (now (file .entry)) (now (words .entry)) ⌝ }
+    ensures { λ _. ⌜ now (words .exit) ≡ keepWords (now (file .entry)) (now (words .entry)) ⌝ }
+{
+    let h = heads::read_head(file);
+    if (8 < h.curves) | (40 < h.size) {
+        return 4;
+    }
+    if words.len() < 2560 {
+        return 11;
+    }
+    keeper::keep_network(file, h, words);
     0
 }

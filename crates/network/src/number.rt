@@ -29,7 +29,7 @@ pub(crate) fn u16_at(b: &[u8], i: usize) -> u64
 }
 
 pub(crate) fn u32_at(b: &[u8], i: usize) -> u64
-    requires { ⌜ i < 1000000000000 ⌝ }
+    requires { ⌜ i < 10000000000000 ⌝ }
     ensures { λ r. ⌜ (r ≡ u32At (now (b .entry)) i) × (r < 4294967296) ⌝ }
 {
     byte_at(b, i) * 16777216

@@ -5,7 +5,8 @@ use mathlib.Core.Bool.{Bool, true, false, _||_, not}
 use mathlib.Core.List.{List}
 use lib.Ieee.{Float}
 use Rattle.laws.specs.First.{row}
-use Rattle.laws.proofs.First.{row-applies, row-skipped}
+use borrow.Author.Tests.{not-false}
+use Rattle.laws.proofs.First.{row-applies, row-skipped, row-passed}
 use Rattle.study.specs.Arrangement.{networkAt, runCountAt, caseAt}
 use Rattle.study.specs.Sound.{sound}
 use Rattle.study.specs.Calls.{Call, Answer, refused}
@@ -58,3 +59,8 @@ module _ (c : Call) (words : List ℕ) (speeds : List Float) where
   pub judged : isStart c ≡ false → sound words speeds ≡ true → refusalAt c a ≡ refusal c (groundsAt a)
   unfolding refusalAt
   judged p e = row-skipped _ _ _ (λ j. not (p j || e j))
+
+  -- only a sound study is not refused
+  pub accepted-sound : isStart c ≡ false → refusalAt c a ≡ 0 → sound words speeds ≡ true
+  unfolding refusalAt
+  accepted-sound p z = sym (λ j. p j || sound words speeds) ∙ not-false (isStart c || sound words speeds) (row-passed _ _ _ z)

@@ -1,6 +1,5 @@
 pub mod Arrangement
 pub mod Sound
-pub mod Ready
 pub mod Calls
 pub mod Start
 pub mod Change
@@ -8,3 +7,8 @@ pub mod Refusal
 pub mod Perform
 pub mod Book
 pub mod Claim
+pub mod Ready
+pub mod Agreed
+pub mod Example
+pub mod Figures
+pub mod Write

@@ -1,11 +1,15 @@
--- What judging a study's cases rests on.
-use Prim.Native.Nat.{ℕ, _≤_}
+-- What the functions inside rest on.
+use Prim.Native.Nat.{ℕ, _+_, _*_, _≤_}
 use mathlib.Core.Path.{_≡_}
-use mathlib.Core.List.{List}
-use lib.ListN.{length}
+use mathlib.Core.List.{List, [], _∷_, _++_}
+use lib.ListN.{length, getD, drop, replicate}
 use lib.Ieee.{Float}
+use Rattle.laws.specs.Lists.{parts}
+use Rattle.network.specs.File.{headOf, segmentOn, entryOn, networkOf, fileNumber}
+use Rattle.network.specs.Words.{keptWords}
 use Rattle.model.specs.Ready.{NetworkOk}
 use Rattle.study.specs.Arrangement.{wordsFor, speedsFor, sizeAt}
+use Rattle.study.specs.Start.{startSegmentNumber}
 
 -- the network is within rows 4, 6, 7 and 8, n is its size, and the arrays are long enough
 pub record Laid (words : List ℕ) (speeds : List Float) (n : ℕ) : Type 0 where
@@ -13,3 +17,29 @@ pub record Laid (words : List ℕ) (speeds : List Float) (n : ℕ) : Type 0 wher
   pub size : n ≡ sizeAt words
   pub room : wordsFor n ≤ length words
   pub lane : speedsFor n ≤ length speeds
+
+-- 14, of segment i, as the file's bytes say it
+abbrev pub startNumberOn : List ℕ → List ℕ → List ℕ → List ℕ → ℕ → ℕ
+startNumberOn b mvs speeds queues i =
+    startSegmentNumber (segmentOn b i) (entryOn b (segmentOn b i .curve) 0) (getD mvs i 0) (getD speeds i 0) (getD queues i 0)
+
+-- Start's lists, on a file that is accepted, are as long as it says
+pub record Listed (b mvs speeds queues : List ℕ) : Type 0 where
+  pub file : fileNumber b ≡ 0
+  pub mvs-many : length mvs ≡ headOf b .size
+  pub speeds-many : length speeds ≡ headOf b .size
+  pub queues-many : length queues ≡ headOf b .size
+
+-- ---- what Start writes, part by part
+
+-- the 16 words of a row with a dark sign and an open ramp, flows 0
+unfoldable pub openWords : ℕ → ℕ → ℕ → List ℕ
+openWords mv queue most = mv ∷ queue ∷ 0 ∷ 0 ∷ 0 ∷ most ∷ 0 ∷ 0 ∷ 0 ∷ 0 ∷ 0 ∷ 0 ∷ 0 ∷ 0 ∷ 0 ∷ 0 ∷ []
+
+abbrev pub openWordsOn : List ℕ → List ℕ → List ℕ → ℕ → List ℕ
+openWordsOn b mvs queues i = openWords (getD mvs i 0) (getD queues i 0) (segmentOn b i .most)
+
+-- the network, 16 words of run count and marks, the rows and 8 words of totals
+unfoldable pub beginWords : List ℕ → List ℕ → List ℕ → ℕ → List ℕ → List ℕ
+beginWords b mvs queues n words =
+    (keptWords (networkOf b) ++ replicate 16 0) ++ (parts (openWordsOn b mvs queues) n ++ (replicate 8 0 ++ drop (2584 + 16 * n) words))

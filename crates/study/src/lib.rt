@@ -1,8 +1,18 @@
 // A study in the lent words and speeds: its network, run count and marks, its live case and six slots.
 mod judge; // judge.rt: whether a study is sound
+mod refuse; // refuse.rt: the number that refuses a call
+mod begin; // begin.rt: Start
+mod segment; // segment.rt: a segment by its number
+mod change; // change.rt: what a sign and a setting put into a row
+mod copy; // copy.rt: a case copied to the place of another
+mod figures; // figures.rt: the figures that a report gives
 
 ghost use mathlib.Core.Path.{_≡_};
 ghost use Rattle.study.specs.Sound.{sound};
+ghost use Rattle.study.specs.Calls.{start, sign, meter, step, hold, recall, dropSlot, report, reportSegment, reportRuns};
+ghost use Rattle.study.specs.Calls.{verdictSays, caseSays, segmentSays, runSays};
+ghost use Rattle.study.specs.Perform.{Performs};
+ghost use Rattle.study.specs.Write.{writtenBytes, writeAnswer, writtenSays};
 
 // A ramp's setting: open, fixed at a rate in mv a step, or ALINEA with target in veh/km/lane, gain and least in mv, interval z in steps.
 pub enum Setting {
@@ -58,9 +68,173 @@ pub enum RunReport {
     Count(u64),
 }
 
+// What Write answers: how many bytes it has written.
+pub enum Written {
+    Refused(u64),
+    Bytes(u64),
+}
+
 // Whether the arrays hold a sound study. Nothing is presumed of them.
 pub fn sound(words: &[u64], speeds: &[f64]) -> bool
     ensures { λ r. ⌜ r ≡ sound (now (words .entry)) (now (speeds .entry)) ⌝ }
 {
     judge::sound_number(words, speeds) == 0
+}
+
+// Begins a study on a network file: for each segment initial mv, speed in whole m/h and queue in mv. All ramps are open, signs dark,
+// flows and totals 0, slots empty, the run count 0.
+pub fn start(
+    words: &mut [u64],
+    speeds: &mut [f64],
+    file: &[u8],
+    mvs: &[u32],
+    starts: &[u32],
+    queues: &[u32],
+) -> Verdict
+    ensures { λ r. ⌜ Performs (start (now (file .entry)) (now (mvs .entry)) (now (starts .entry)) (now (queues .entry))) (now (words .entry)) (now (speeds .entry)) (verdictSays r) (now (words .exit)) (now (speeds .exit)) ⌝ }
+{
+    let r = begin::start_number(words, speeds, file, mvs, starts, queues);
+    if r != 0 {
+        return Verdict::Refused(r);
+    }
+    let h = network::head_of(file);
+    let n = h.size as usize;
+    begin::put_words(words, file, mvs, queues, n);
+    begin::put_speeds(speeds, starts, n);
+    Verdict::Accepted
+}
+
+// Sets the sign of segment i, from 1: a limit in km/h, 0 where it is dark, with compliance in thousandths.
+pub fn sign(words: &mut [u64], speeds: &[f64], i: u64, limit: u64, compliance: i64) -> Verdict
+    ensures { λ r. ⌜ Performs (sign i limit compliance) (now (words .entry)) (now (speeds .entry)) (verdictSays r) (now (words .exit)) (now (speeds .entry)) ⌝ }
+{
+    let r = refuse::sign_number(words, speeds, i, limit, compliance);
+    if r != 0 {
+        return Verdict::Refused(r);
+    }
+    let at = 2576 + 16 * ((i - 1) as usize);
+    change::put_sign(&mut words[at..at + 16], limit, compliance);
+    Verdict::Accepted
+}
+
+// Sets the ramp of segment i, from 1.
+pub fn meter(words: &mut [u64], speeds: &[f64], i: u64, setting: Setting) -> Verdict
+    ensures { λ r. ⌜ Performs (meter i setting) (now (words .entry)) (now (speeds .entry)) (verdictSays r) (now (words .exit)) (now (speeds .entry)) ⌝ }
+{
+    let r = refuse::meter_number(words, speeds, i, setting);
+    if r != 0 {
+        return Verdict::Refused(r);
+    }
+    let s = segment::segment_at(words, i);
+    let at = 2576 + 16 * ((i - 1) as usize);
+    change::put_setting(&mut words[at..at + 16], s.most, setting);
+    Verdict::Accepted
+}
+
+// One step of the live case, with the arrivals of each segment in mv.
+pub fn step(words: &mut [u64], speeds: &mut [f64], arrivals: &[u32]) -> Verdict
+    ensures { λ r. ⌜ Performs (step (now (arrivals .entry))) (now (words .entry)) (now (speeds .entry)) (verdictSays r) (now (words .exit)) (now (speeds .exit)) ⌝ }
+{
+    let r = refuse::step_number(words, speeds, arrivals);
+    if r != 0 {
+        return Verdict::Refused(r);
+    }
+    let n = words[1] as usize;
+    let runs = words[2560];
+    model::step(words, speeds, arrivals, 2576, 0, n);
+    words[2560] = runs + 1;
+    Verdict::Accepted
+}
+
+// The live case into slot k, which is then filled.
+pub fn hold(words: &mut [u64], speeds: &mut [f64], k: u64) -> Verdict
+    ensures { λ r. ⌜ Performs (hold k) (now (words .entry)) (now (speeds .entry)) (verdictSays r) (now (words .exit)) (now (speeds .exit)) ⌝ }
+{
+    let r = refuse::hold_number(words, speeds, k);
+    if r != 0 {
+        return Verdict::Refused(r);
+    }
+    let n = words[1] as usize;
+    let slot = k as usize;
+    copy::copy_words(words, n, 0, slot);
+    copy::copy_speeds(speeds, n, 0, slot);
+    words[2560 + slot] = 1;
+    Verdict::Accepted
+}
+
+// Slot k's case over the live one; the slot stays filled.
+pub fn recall(words: &mut [u64], speeds: &mut [f64], k: u64) -> Verdict
+    ensures { λ r. ⌜ Performs (recall k) (now (words .entry)) (now (speeds .entry)) (verdictSays r) (now (words .exit)) (now (speeds .exit)) ⌝ }
+{
+    let r = refuse::recall_number(words, speeds, k);
+    if r != 0 {
+        return Verdict::Refused(r);
+    }
+    let n = words[1] as usize;
+    let slot = k as usize;
+    copy::copy_words(words, n, slot, 0);
+    copy::copy_speeds(speeds, n, slot, 0);
+    Verdict::Accepted
+}
+
+// Changes only slot k's filled mark.
+pub fn drop_slot(words: &mut [u64], speeds: &[f64], k: u64) -> Verdict
+    ensures { λ r. ⌜ Performs (dropSlot k) (now (words .entry)) (now (speeds .entry)) (verdictSays r) (now (words .exit)) (now (speeds .entry)) ⌝ }
+{
+    let r = refuse::recall_number(words, speeds, k);
+    if r != 0 {
+        return Verdict::Refused(r);
+    }
+    words[2560 + k as usize] = 0;
+    Verdict::Accepted
+}
+
+// Report of case k: 0 is the live one, 1..6 are the slots.
+pub fn report(words: &[u64], speeds: &[f64], k: u64) -> CaseReport
+    ensures { λ r. ⌜ Performs (report k) (now (words .entry)) (now (speeds .entry)) (caseSays r) (now (words .entry)) (now (speeds .entry)) ⌝ }
+{
+    let r = refuse::case_number(words, speeds, k);
+    if r != 0 {
+        return CaseReport::Refused(r);
+    }
+    CaseReport::Figures(figures::case_figures(words, words[1] as usize, k as usize))
+}
+
+// Report of segment i, 1..n, of case k.
+pub fn report_segment(words: &[u64], speeds: &[f64], k: u64, i: u64) -> SegmentReport
+    ensures { λ r. ⌜ Performs (reportSegment k i) (now (words .entry)) (now (speeds .entry)) (segmentSays r) (now (words .entry)) (now (speeds .entry)) ⌝ }
+{
+    let r = refuse::segment_number(words, speeds, k, i);
+    if r != 0 {
+        return SegmentReport::Refused(r);
+    }
+    let n = words[1] as usize;
+    SegmentReport::Figures(figures::segment_figures(words, speeds, n, k as usize, (i - 1) as usize))
+}
+
+// The run count: accepted steps since Start.
+pub fn run_count(words: &[u64], speeds: &[f64]) -> RunReport
+    ensures { λ r. ⌜ Performs reportRuns (now (words .entry)) (now (speeds .entry)) (runSays r) (now (words .entry)) (now (speeds .entry)) ⌝ }
+{
+    if !sound(words, speeds) {
+        return RunReport::Refused(12);
+    }
+    RunReport::Count(words[2560])
+}
+
+// Writes the stored network as a file from the buffer's first byte on; later bytes stay. A refused call leaves the buffer as it came.
+pub fn write(words: &[u64], speeds: &[f64], out: &mut [u8]) -> Written
+    ensures { λ r. ⌜ writtenSays r ≡ writeAnswer (now (words .entry)) (now (speeds .entry)) (now (out .entry)) ⌝ }
+    ensures { λ _. ⌜ now (out .exit) ≡ writtenBytes (now (words .entry)) (now (speeds .entry)) (now (out .entry)) ⌝ }
+{
+    if !sound(words, speeds) {
+        return Written::Refused(12);
+    }
+    let net = &words[..2560];
+    let r = network::write(net, out);
+    if r != 0 {
+        return Written::Refused(r);
+    }
+    let h = network::kept_head(net);
+    Written::Bytes(16 + 804 * h.curves + 16 * h.size)
 }

@@ -1,0 +1,231 @@
+-- Which row refuses a report, and that the figures read in the words are those of the case.
+use Prim.Native.Nat.{ℕ, suc, _+_, _*_, _≤_, _<_}
+use mathlib.Core.Path.{_≡_, refl, sym, ap, _∙_, subst}
+use mathlib.Core.Bool.{Bool, true, false, _&&_, _||_, not}
+use mathlib.Core.List.{List, [], _∷_}
+use native.Mathlib.Nat.{le-trans, le-of-eq}
+use native.Mathlib.Omega.{arith}
+use lib.Dec.{T, ltb, eqb, lit<}
+use lib.ListN.{length, getD, drop}
+use lib.Seq.{getD-drop}
+use lib.Ieee.{Float, nan, inf, fin, isNan, lt}
+use borrow.Author.Tests.{lt-ltb, le-ltb, le-leb, eq-eqb, ne-eqb, ltb-false, not-false}
+use Rattle.laws.specs.First.{outside, row, first}
+use Rattle.laws.specs.Sums.{sumOf}
+use Rattle.laws.proofs.First.{row-applies, row-skipped, row-passed, row-later, first-some, first-zero, first-zero-left, first-zero-right}
+use Rattle.laws.proofs.Reals.{Truncates}
+use Rattle.laws.proofs.Sums.{sum-ext}
+use Rattle.laws.proofs.Tests.{inside-low, inside-high}
+use Rattle.network.specs.declared.Head.{Head}
+use Rattle.network.specs.declared.Segment.{Segment}
+use Rattle.network.specs.Network.{segmentOf}
+use Rattle.network.specs.Words.{headIn, entryIn, segmentIn}
+use Rattle.model.specs.declared.Row.{Row}
+use Rattle.model.specs.Case.{rowOf}
+use Rattle.model.specs.Words.{netOf, rowIn, rowAt, rowsIn, caseIn}
+use Rattle.model.specs.Ready.{RowOk, CaseAt}
+use Rattle.model.specs.Sound.{caseNumberIn}
+use Rattle.model.proofs.SegmentLaws.{segment-ok, truncating-speed}
+use Rattle.model.proofs.SoundLaws.{row-read, case-row}
+use Rattle.study.specs.declared.CaseReport.the-variants as caseReport
+use Rattle.study.specs.declared.SegmentReport.the-variants as segmentReport
+use Rattle.study.specs.Arrangement.{caseWord, caseSpeed, networkAt, sizeAt, markAt, filledAt, caseAt}
+use Rattle.study.specs.Sound.{sound}
+use Rattle.study.specs.Ready.{Laid}
+use Rattle.study.specs.Calls.{Call, report, reportSegment, Answer, figures, caseSays, segmentSays}
+use Rattle.study.specs.Refusal.{caseNumber, refusal}
+use Rattle.study.specs.Perform.{Arrays, lent, isStart, refusalAt, caseFigures, segmentFigures}
+use Rattle.study.specs.Figures.{figureAt, figuresAt, rowFigures, Summable, Reportable, Showable}
+use Rattle.study.proofs.Judging.{placed, size-high}
+use Rattle.study.proofs.Sounds.{laid, case-sound}
+use Rattle.study.proofs.Performing.{judged, accepted-sound}
+use Rattle.study.proofs.Network.{head-kept, segment-kept, size-word}
+
+-- ---- which row refuses
+
+row-first : (t : Bool) (k x y : ℕ) → row t (suc k) (first x y) ≡ first (row t (suc k) x) y
+unfolding row first
+row-first true k x y = refl
+row-first false k x y = refl
+
+module _ (words : List ℕ) (speeds : List Float) where
+  abbrev a : Arrays
+  a = lent words speeds
+
+  module _ (k : ℕ) where
+    module _ (s : sound words speeds ≡ true) where
+      rows : refusalAt (report k) a ≡ row (ltb 6 k) 21 (row (not (eqb k 0 || filledAt words k)) 23 0)
+      unfolding refusal caseNumber
+      rows = judged (report k) words speeds refl s
+
+      pub case-none : 6 < k → 21 ≡ refusalAt (report k) a
+      case-none l = sym (rows ∙ row-applies _ _ _ (lt-ltb _ _ l))
+
+      module _ (l : k ≤ 6) where
+        later : refusalAt (report k) a ≡ row (not (eqb k 0 || filledAt words k)) 23 0
+        later = rows ∙ row-skipped _ _ _ (le-ltb _ _ l)
+
+        pub case-live : k ≡ 0 → 0 ≡ refusalAt (report k) a
+        case-live e = sym (later ∙ row-skipped _ _ _ (λ j. not (eq-eqb k 0 e j || filledAt words k)))
+
+        module _ (slot : k ≡ 0 → ⊥) where
+          marked : filledAt words k ≡ eqb (markAt words k) 1
+          marked =
+              let low : 1 ≤ k = omega (arith, slot) in
+              λ j. le-leb 1 k low j && le-leb k 6 l j && eqb (markAt words k) 1
+
+          tested : refusalAt (report k) a ≡ row (not (eqb (markAt words k) 1)) 23 0
+          tested = later ∙ (λ j. row (not (ne-eqb k 0 slot j || marked j)) 23 0)
+
+          pub case-filled : markAt words k ≡ 1 → 0 ≡ refusalAt (report k) a
+          case-filled e = sym (tested ∙ row-skipped _ _ _ (ap not (eq-eqb _ _ e)))
+
+          pub case-empty : (markAt words k ≡ 1 → ⊥) → 23 ≡ refusalAt (report k) a
+          case-empty e = sym (tested ∙ row-applies _ _ _ (ap not (ne-eqb _ _ e)))
+
+    -- an accepted report
+    module _ (z : refusalAt (report k) a ≡ 0) where
+      fine : sound words speeds ≡ true
+      fine = accepted-sound (report k) words speeds refl z
+
+      passed : row (ltb 6 k) 21 (row (not (eqb k 0 || filledAt words k)) 23 0) ≡ 0
+      passed = sym (rows fine) ∙ z
+
+      pub reportable : Reportable words speeds (getD words 1 0) k
+      reportable =
+          record {
+            laid = subst (λ (n : ℕ). Laid words speeds n) (size-word words) (laid words speeds fine);
+            high = ltb-false _ _ (row-passed _ _ _ passed);
+            sound = case-sound words speeds fine k (not-false _ (row-passed _ _ _ (row-later _ _ _ passed)));
+          }
+
+      pub report-long : 2576 ≤ length words
+      report-long = omega (arith, reportable .laid .room)
+
+    -- a report of segment i
+    module _ (i : ℕ) where
+      with-segment : refusalAt (reportSegment k i) a ≡ first (refusalAt (report k) a) (row (outside 1 i (getD words 1 0)) 17 0)
+      unfolding refusalAt refusal
+      with-segment =
+          row-first _ _ _ _
+          ∙ ap (λ (n : ℕ). first (refusalAt (report k) a) (row (outside 1 i n) 17 0))
+          (ap (λ (h : Head). h .size) (head-kept (netOf words)) ∙ size-word words)
+
+      pub segment-case : {r : ℕ} → r ≡ refusalAt (report k) a → (r ≡ 0 → ⊥) → r ≡ refusalAt (reportSegment k i) a
+      segment-case e some = e ∙ sym (with-segment ∙ first-some _ _ (λ z. some (e ∙ z)))
+
+      module _ (z : refusalAt (report k) a ≡ 0) where
+        pub segment-none : outside 1 i (getD words 1 0) ≡ true → 17 ≡ refusalAt (reportSegment k i) a
+        segment-none e = sym (with-segment ∙ first-zero _ _ z ∙ row-applies _ _ _ e)
+
+        pub segment-there : outside 1 i (getD words 1 0) ≡ false → 0 ≡ refusalAt (reportSegment k i) a
+        segment-there e = sym (with-segment ∙ first-zero _ _ z ∙ row-skipped _ _ _ e)
+
+      module _ (z : refusalAt (reportSegment k i) a ≡ 0) where
+        pub segment-accepted : refusalAt (report k) a ≡ 0
+        segment-accepted = first-zero-left _ _ (sym with-segment ∙ z)
+
+        inside : outside 1 i (getD words 1 0) ≡ false
+        inside = row-passed _ _ _ (first-zero-right (refusalAt (report k) a) _ (sym with-segment ∙ z))
+
+        pub segment-low : 1 ≤ i
+        segment-low = inside-low 1 i (getD words 1 0) inside
+
+        pub segment-high : i ≤ getD words 1 0
+        segment-high = inside-high 1 i (getD words 1 0) inside
+
+-- ---- the figures
+
+number-of : (v : Float) → Truncates v → T (not (isNan v))
+unfolding isNan lt
+number-of nan t = absurd (t .above)
+number-of (inf s) t = tt
+number-of (fin s m e) t = tt
+
+-- figure o of row i is read in the row's words
+figure-read : (words : List ℕ) (at o i : ℕ) → figureAt words at o i ≡ getD (drop (at + 16 * i) words) o 0
+figure-read words at o i = sym (getD-drop (at + 16 * i) words o 0)
+
+module _ (words : List ℕ) (speeds : List Float) (at from n : ℕ) where
+  counts-sum : sumOf (figureAt words at 0) n ≡ sumOf (λ i. rowOf (rowsIn words speeds at from n) i .count) n
+  unfolding rowIn
+  counts-sum = sum-ext _ _ n (λ i l. figure-read words at 0 i ∙ ap (λ (r : Row). r .count) (sym (row-read words speeds at from n i l)))
+
+  queues-sum : sumOf (figureAt words at 1) n ≡ sumOf (λ i. rowOf (rowsIn words speeds at from n) i .queue) n
+  unfolding rowIn
+  queues-sum = sum-ext _ _ n (λ i l. figure-read words at 1 i ∙ ap (λ (r : Row). r .queue) (sym (row-read words speeds at from n i l)))
+
+module _ {words : List ℕ} {speeds : List Float} {n k : ℕ} (p : Reportable words speeds n k) where
+  abbrev at : ℕ
+  at = caseWord n k
+
+  abbrev from : ℕ
+  from = caseSpeed n k
+
+  place : CaseAt words speeds at from n
+  place = placed (p .laid) k (p .high)
+
+  zeroed : caseNumberIn words speeds at from n ≡ 0
+  zeroed = ap (λ (m : ℕ). caseNumberIn words speeds (caseWord m k) (caseSpeed m k) m) (p .laid .size) ∙ p .sound
+
+  row-of : (i : ℕ) → i < n → RowOk (segmentIn (netOf words) i) (entryIn (netOf words) (segmentIn (netOf words) i .curve) 0) (rowAt words speeds at from i)
+  row-of = case-row place zeroed
+
+  -- the speed of segment i
+  pub showable : (i : ℕ) → i < n → Showable (getD speeds (from + i) nan)
+  unfolding rowIn
+  showable i l =
+      let t = truncating-speed (segment-ok (p .laid .net) i (omega (arith, p .laid .size))) (row-of i l) in
+      record { above = t .above; under = t .under; number = number-of _ t }
+
+  pub counts-summable : Summable words at 0 n
+  unfolding rowIn
+  counts-summable =
+      record {
+        many = size-high (p .laid);
+        room = place .room;
+        inside = lit< tt;
+        high = λ i l. le-trans (le-of-eq (figure-read words at 0 i)) (row-of i l .count);
+      }
+
+  pub queues-summable : Summable words at 1 n
+  unfolding rowIn
+  queues-summable =
+      record {
+        many = size-high (p .laid);
+        room = place .room;
+        inside = lit< tt;
+        high = λ i l. le-trans (le-of-eq (figure-read words at 1 i)) (row-of i l .queue);
+      }
+
+  -- the figures of the case
+  pub case-shown : caseSays (caseReport.Figures (figuresAt words at n)) ≡ figures (caseFigures (networkAt words) (caseAt words speeds k))
+  unfolding figuresAt caseFigures caseIn
+  case-shown =
+      (λ j. figures (
+      getD words (at + 16 * n) 0
+      ∷ counts-sum words speeds at from n j
+      ∷ queues-sum words speeds at from n j
+      ∷ getD words (at + 16 * n + 1) 0 ∷ getD words (at + 16 * n + 2) 0 ∷ getD words (at + 16 * n + 3) 0
+      ∷ []))
+      ∙ ap (λ (m : ℕ). shown m m) (p .laid .size)
+      ∙ ap (λ (h : Head). shown (sizeAt words) (h .size)) (sym (head-kept (netOf words)))
+    where
+      -- of the case of m segments, whose sums go over the first t of them
+      shown : ℕ → ℕ → Answer
+      shown m t =
+          let c = caseIn words speeds (caseWord m k) (caseSpeed m k) m in
+          figures (c .steps ∷ sumOf (λ i. rowOf (c .rows) i .count) t ∷ sumOf (λ i. rowOf (c .rows) i .queue) t ∷ c .arrivals ∷ c .exits ∷ c .time ∷ [])
+
+  -- the figures of segment i
+  pub segment-shown :
+      (i : ℕ) → i < n →
+      segmentSays (segmentReport.Figures (rowFigures (segmentIn (netOf words) i) (rowAt words speeds at from i)))
+      ≡ figures (segmentFigures (networkAt words) (caseAt words speeds k) i)
+  unfolding rowFigures segmentFigures caseIn
+  segment-shown i l =
+      (λ j. says (sym (segment-kept (netOf words) i (omega (arith, p .laid .size, l))) j) (sym (row-read words speeds at from n i l) j))
+      ∙ ap (λ (m : ℕ). says (segmentOf (networkAt words) i) (rowOf (rowsIn words speeds (caseWord m k) (caseSpeed m k) m) i)) (p .laid .size)
+    where
+      says : Segment → Row → Answer
+      says s r = segmentSays (segmentReport.Figures (rowFigures s r))

@@ -1,0 +1,104 @@
+-- Sign and Meter: a compliance with 500 added, the rows of the table after 12, and where segment i's row stands.
+use Prim.Native.Nat.{ℕ, zero, suc, _+_, _-_, _≤_}
+use mathlib.Core.Path.{_≡_, refl, sym, ap, _∙_}
+use mathlib.Core.Bool.{Bool, true, false, cond, not, _&&_, _||_}
+use mathlib.Core.List.{List}
+use native.Mathlib.Omega.{arith}
+use lib.Dec.{ltb, eqb}
+use lib.IntN.{ℤ, pos, negsuc, _+ℤ_}
+use lib.Signed.{ltZ}
+use lib.ListN.{length}
+use lib.Ieee.{Float}
+use borrow.Author.Tests.{ltb-false, le-ltb}
+use Rattle.laws.specs.First.{outside, row}
+use Rattle.laws.proofs.First.{row-passed, row-later}
+use Rattle.laws.proofs.Tests.{or-right, inside-low, inside-high}
+use Rattle.network.specs.Network.{networkFrom, segmentOf}
+use Rattle.study.specs.declared.Setting.{Setting}
+use Rattle.study.specs.Arrangement.{networkAt, sizeAt}
+use Rattle.study.specs.Sound.{sound}
+use Rattle.study.specs.Calls.{sign, meter}
+use Rattle.study.specs.Change.{complianceBad, raised, keptCompliance, signRefused, settingRefused}
+use Rattle.study.specs.Refusal.{refusal}
+use Rattle.study.specs.Perform.{refusalAt, rowWord, lent}
+use Rattle.study.proofs.Judging.{size-high}
+use Rattle.study.proofs.Sounds.{laid}
+use Rattle.study.proofs.Performing.{judged, accepted-sound}
+
+-- ---- compliance
+
+pub compliance-tested : (z : ℤ) → (ltZ z (negsuc 499) || ltZ (pos 500) z) ≡ complianceBad z
+compliance-tested (pos a) = refl
+compliance-tested (negsuc a) = or-false (ltb 499 a)
+  where
+    or-false : (t : Bool) → (t || false) ≡ t
+    or-false true = refl
+    or-false false = refl
+
+pub raised-is : (z : ℤ) → complianceBad z ≡ false → z +ℤ pos 500 ≡ pos (raised z)
+raised-is (pos a) e = ap pos (omega arith)
+raised-is (negsuc a) e =
+    let l = ltb-false 499 a e in
+    ap (λ (t : Bool). cond t (negsuc (suc a - suc 500)) (pos (500 - suc a))) (le-ltb 500 (suc a) (omega arith)) ∙ ap pos (omega arith)
+
+pub raised-high : (z : ℤ) → complianceBad z ≡ false → raised z ≤ 1000
+raised-high (pos a) e = omega (arith, ltb-false 500 a e)
+raised-high (negsuc a) e = omega arith
+
+-- a sign that is not dark
+pub shown-compliance : (limit : ℕ) (z : ℤ) → (limit ≡ 0 → ⊥) → keptCompliance limit z ≡ raised z
+shown-compliance zero z some = absurd (some refl)
+shown-compliance (suc limit) z some = refl
+
+-- ---- segment i's row in the live case, i from 1
+
+pub record RowWithin (words : List ℕ) (i : ℕ) : Type 0 where
+  pub low : 1 ≤ i
+  pub high : i ≤ sizeAt words
+  pub small : i ≤ 40
+  pub room : rowWord i + 16 ≤ length words
+
+module _ (words : List ℕ) (speeds : List Float) (i : ℕ) where
+  module _ (s : sound words speeds ≡ true) where
+    pub row-within : outside 1 i (sizeAt words) ≡ false → RowWithin words i
+    row-within e =
+        let l = laid words speeds s in
+        let low = inside-low 1 i (sizeAt words) e in
+        let high = inside-high 1 i (sizeAt words) e in
+        record {
+          low = low;
+          high = high;
+          small = omega (arith, high, size-high l);
+          room = omega (arith, low, high, l .room);
+        }
+
+    -- ---- the rows of the table
+
+    pub sign-judged : (limit : ℕ) (z : ℤ)
+        → refusalAt (sign i limit z) (lent words speeds) ≡ row (outside 1 i (sizeAt words)) 17 (row (signRefused limit z) 18 0)
+    unfolding refusal networkFrom
+    sign-judged limit z = judged (sign i limit z) words speeds refl s
+
+    pub meter-judged : (m : Setting)
+        → let w = segmentOf (networkAt words) (i - 1) in
+        refusalAt (meter i m) (lent words speeds)
+        ≡ row (outside 1 i (sizeAt words)) 17 (row (eqb i 1 || eqb (w .origin) 0) 19 (row (settingRefused (w .most) m) 20 0))
+    unfolding refusal networkFrom
+    meter-judged m = judged (meter i m) words speeds refl s
+
+  -- ---- what acceptance says
+
+  module _ (limit : ℕ) (z : ℤ) (e : refusalAt (sign i limit z) (lent words speeds) ≡ 0) where
+    sign-sound : sound words speeds ≡ true
+    sign-sound = accepted-sound (sign i limit z) words speeds refl e
+
+    pub sign-within : RowWithin words i
+    sign-within = row-within sign-sound (row-passed _ _ _ (sym (sign-judged sign-sound limit z) ∙ e))
+
+    pub sign-compliance : complianceBad z ≡ false
+    sign-compliance = or-right (not (eqb limit 0) && outside 20 limit 200) (complianceBad z) (row-passed _ _ _ (row-later _ _ _ (sym (sign-judged sign-sound limit z) ∙ e)))
+
+  pub meter-within : (m : Setting) → refusalAt (meter i m) (lent words speeds) ≡ 0 → RowWithin words i
+  meter-within m e =
+      let s = accepted-sound (meter i m) words speeds refl e in
+      row-within s (row-passed _ _ _ (sym (meter-judged s m) ∙ e))

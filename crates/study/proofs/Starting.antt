@@ -1,0 +1,207 @@
+-- Start: which row refuses it, and what it writes.
+use Prim.Native.Nat.{ℕ, zero, suc, _+_, _*_, _≤_, _<_}
+use mathlib.Core.Path.{_≡_, refl, sym, ap, _∙_, subst}
+use mathlib.Core.Bool.{Bool, true, false, _||_, not}
+use mathlib.Core.List.{List, [], _∷_, _++_, append-assoc, append-nil}
+use native.Mathlib.Omega.{arith}
+use lib.Dec.{ltb, eqb, lit<}
+use lib.ListN.{length, getD, take, drop, replicate, length-append, length-take, drop-of-length-le}
+use lib.Ieee.{Float}
+use borrow.Author.Tests.{ltb-false, eqb-true, not-false}
+use Rattle.laws.specs.First.{anyOf, row, first, firstOf}
+use Rattle.laws.specs.Lists.{table, part, putPart, parts, puts}
+use Rattle.laws.specs.Real.{real}
+use Rattle.laws.proofs.First.{row-applies, row-skipped, row-passed, row-later, first-some, first-zero, first-zero-left, first-zero-right, firstOf-ext}
+use Rattle.laws.proofs.Tests.{or-left, or-right, anyOf-false}
+use Rattle.laws.proofs.Lists.{getD-table, table-ext, parts-ext, length-parts, length-part}
+use Rattle.laws.proofs.Puts.{put-after, puts-after}
+use Rattle.network.specs.declared.Segment.{Segment}
+use Rattle.network.specs.Network.{networkFrom, entryOf, segmentOf}
+use Rattle.network.specs.File.{headOf, segmentOn, entryOn, networkOf, fileNumber}
+use Rattle.network.specs.Accepted.{SegmentWithin}
+use Rattle.network.proofs.From.{from-segment, from-entry}
+use Rattle.network.specs.Words.{keptWords, keepWords}
+use Rattle.network.proofs.File.{network-within}
+use Rattle.network.proofs.Kept.{length-kept}
+use Rattle.network.proofs.KeptFile.{keep-accepted}
+use Rattle.network.proofs.KeepCall.{keep-is}
+use Rattle.model.specs.declared.Row.{Row}
+use Rattle.model.specs.Case.{Case, noRow, rowOf}
+use Rattle.model.specs.Words.{codedRow, codedWords, codedSpeeds}
+use Rattle.study.specs.Arrangement.{caseWord, wordsFor, speedsFor}
+use Rattle.study.specs.Calls.{start}
+use Rattle.study.specs.Start.{startRow, startCase, startSegmentNumber, startNumber}
+use Rattle.study.specs.Refusal.{refusal}
+use Rattle.study.specs.Perform.{lent, refusalAt, startWords, startSpeeds, storedWords, storedSpeeds}
+use Rattle.study.specs.Ready.{startNumberOn, Listed, openWords, openWordsOn, beginWords}
+
+module _ (b : List ℕ) (z : fileNumber b ≡ 0) where
+  same-segment : (i : ℕ) → i < headOf b .size → segmentOf (networkOf b) i ≡ segmentOn b i
+  same-segment i l = from-segment (headOf b) (entryOn b) (segmentOn b) i l
+
+  -- a segment of an accepted file
+  pub segment-on : (i : ℕ) → i < headOf b .size → SegmentWithin (headOf b) i (segmentOn b i)
+  segment-on i l = subst (λ (s : Segment). SegmentWithin (headOf b) i s) (same-segment i l) (network-within b z .each i l)
+
+  pub size-high : headOf b .size ≤ 40
+  size-high = network-within b z .head .size-high
+
+  module _ (mvs speeds queues : List ℕ) where
+    same-number : (i : ℕ) → i < headOf b .size
+        → startSegmentNumber (segmentOf (networkOf b) i) (entryOf (networkOf b) (segmentOf (networkOf b) i .curve) 0) (getD mvs i 0) (getD speeds i 0) (getD queues i 0)
+        ≡ startNumberOn b mvs speeds queues i
+    same-number i l =
+        ap (λ (s : Segment). startSegmentNumber s (entryOf (networkOf b) (s .curve) 0) (getD mvs i 0) (getD speeds i 0) (getD queues i 0)) (same-segment i l)
+        ∙ ap (λ (F : ℕ). startSegmentNumber (segmentOn b i) F (getD mvs i 0) (getD speeds i 0) (getD queues i 0))
+        (from-entry (headOf b) (entryOn b) (segmentOn b) (segmentOn b i .curve) 0 (segment-on i l .curve-high) (lit< tt))
+
+    abbrev pub uneven : Bool
+    uneven = anyOf (not (eqb (length mvs) (headOf b .size)) ∷ not (eqb (length speeds) (headOf b .size)) ∷ not (eqb (length queues) (headOf b .size)) ∷ [])
+
+    lists-are : startNumber (networkOf b) mvs speeds queues ≡ row uneven 13 (firstOf (startNumberOn b mvs speeds queues) (headOf b .size))
+    unfolding startNumber networkFrom
+    lists-are = ap (row uneven 13) (firstOf-ext _ (startNumberOn b mvs speeds queues) (headOf b .size) same-number)
+
+-- ---- the number of the call
+module _ (words : List ℕ) (paces : List Float) (b mvs speeds queues : List ℕ) where
+  abbrev number : ℕ
+  number = refusalAt (start b mvs speeds queues) (lent words paces)
+
+  abbrev pub short : Bool
+  short = ltb (length words) (wordsFor (headOf b .size)) || ltb (length paces) (speedsFor (headOf b .size))
+
+  number-is : number ≡ first (fileNumber b) (row short 11 (startNumber (networkOf b) mvs speeds queues))
+  unfolding refusalAt refusal networkFrom
+  number-is = row-skipped _ _ _ refl
+
+  pub file-refused : {r : ℕ} → r ≡ fileNumber b → (r ≡ 0 → ⊥) → r ≡ number
+  file-refused e some = e ∙ sym (number-is ∙ first-some _ _ (λ z. some (e ∙ z)))
+
+  module _ (z : fileNumber b ≡ 0) where
+    pub arrays-short : short ≡ true → 11 ≡ number
+    arrays-short s = sym (number-is ∙ first-zero _ _ z ∙ row-applies _ _ _ s)
+
+    module _ (s : short ≡ false) where
+      lists-number : number ≡ row (uneven b z mvs speeds queues) 13 (firstOf (startNumberOn b mvs speeds queues) (headOf b .size))
+      lists-number = number-is ∙ first-zero _ _ z ∙ row-skipped _ _ _ s ∙ lists-are b z mvs speeds queues
+
+      pub lists-uneven : uneven b z mvs speeds queues ≡ true → 13 ≡ number
+      lists-uneven u = sym (lists-number ∙ row-applies _ _ _ u)
+
+      pub segments-judged : {r : ℕ} → uneven b z mvs speeds queues ≡ false → r ≡ firstOf (startNumberOn b mvs speeds queues) (headOf b .size) → r ≡ number
+      segments-judged u e = e ∙ sym (lists-number ∙ row-skipped _ _ _ u)
+
+  -- ---- what acceptance says
+  module _ (q : number ≡ 0) where
+    pub start-file : fileNumber b ≡ 0
+    start-file = first-zero-left _ _ (sym number-is ∙ q)
+
+    later : row short 11 (startNumber (networkOf b) mvs speeds queues) ≡ 0
+    later = first-zero-right (fileNumber b) _ (sym number-is ∙ q)
+
+    pub start-room : wordsFor (headOf b .size) ≤ length words
+    start-room = ltb-false _ _ (or-left (ltb (length words) (wordsFor (headOf b .size))) _ (row-passed _ _ _ later))
+
+    pub start-lane : speedsFor (headOf b .size) ≤ length paces
+    start-lane = ltb-false _ _ (or-right (ltb (length words) (wordsFor (headOf b .size))) (ltb (length paces) (speedsFor (headOf b .size))) (row-passed _ _ _ later))
+
+    even : uneven b start-file mvs speeds queues ≡ false
+    even = row-passed _ _ _ (sym (lists-are b start-file mvs speeds queues) ∙ row-later _ _ _ later)
+
+    pub start-listed : Listed b mvs speeds queues
+    start-listed =
+        let no = anyOf-false _ even in
+        record {
+          file = start-file;
+          mvs-many = eqb-true _ _ (not-false _ (no 0));
+          speeds-many = eqb-true _ _ (not-false _ (no 1));
+          queues-many = eqb-true _ _ (not-false _ (no 2));
+        }
+
+-- ---- what is written, part by part
+
+pub length-open : (mv queue most : ℕ) → length (openWords mv queue most) ≡ 16
+unfolding openWords
+length-open mv queue most = refl
+
+pub open-whole : (mv queue most : ℕ) → take 16 (openWords mv queue most) ≡ openWords mv queue most
+unfolding openWords
+open-whole mv queue most = refl
+
+pub take-zeros : (m n : ℕ) → m ≤ n → take {A = ℕ} m (replicate n 0) ≡ replicate m 0
+take-zeros zero n h = refl
+take-zeros (suc m) zero h = absurd (omega arith)
+take-zeros (suc m) (suc n) h = ap (λ (l : List ℕ). 0 ∷ l) (take-zeros m n (omega arith))
+
+-- a part of 16, whose length the code computed as k
+pub part-long : (l : List ℕ) (at k : ℕ) → k ≡ 16 → at + 16 ≤ length l → length (part at k l) ≡ 16
+part-long l at k is h = ap (λ (m : ℕ). length (part at m l)) is ∙ length-part l at 16 h
+
+-- xs was written over all of a part of 16
+pub whole : (xs l : List ℕ) (at k : ℕ) → k ≡ 16 → xs ≡ xs ++ drop 16 (part at k l)
+whole xs l at k is =
+    let short : length (part at k l) ≤ 16 = simp length-take (omega (arith, is)) in
+    sym (ap (λ (ys : List ℕ). xs ++ ys) (drop-of-length-le (part at k l) short) ∙ append-nil xs)
+
+module _ (b mvs queues words : List ℕ) (z : fileNumber b ≡ 0) where
+  abbrev front : List ℕ
+  front = keptWords (networkOf b) ++ replicate 16 0
+
+  length-front : length front ≡ 2576
+  unfolding networkFrom
+  length-front =
+      length-append (keptWords (networkOf b)) (replicate 16 0)
+      ∙ ap (λ (m : ℕ). m + 16) (length-kept (networkOf b) (network-within b z .head .curves-high) (network-within b z .head .size-high))
+
+  pub begun : {n : ℕ} {kept marked rowed last : List ℕ} → n ≡ headOf b .size → 2560 ≤ length words
+      → kept ≡ keepWords b words → marked ≡ putPart 2560 16 (replicate 16 0) kept
+      → rowed ≡ puts 16 (openWordsOn b mvs queues) 2576 n marked → last ≡ putPart (2576 + 16 * n) 8 (replicate 8 0) rowed
+      → last ≡ beginWords b mvs queues n words
+  unfolding beginWords networkFrom
+  begun {n} {kept} {marked} {rowed} size long k m r l =
+      let k' : kept ≡ keptWords (networkOf b) ++ drop 2560 words = k ∙ keep-is b words (keep-accepted b words z long) in
+      let size-kept = length-kept (networkOf b) (network-within b z .head .curves-high) (network-within b z .head .size-high) in
+      let m' : marked ≡ front ++ drop 2576 words = m ∙ put-after words kept (keptWords (networkOf b)) (replicate 16 0) 2560 16 size-kept k' in
+      let r' : rowed ≡ (front ++ parts (openWordsOn b mvs queues) n) ++ drop (2576 + 16 * n) words = r ∙ puts-after words marked front 2576 16 (openWordsOn b mvs queues) n length-front m' in
+      let long-rows : length (front ++ parts (openWordsOn b mvs queues) n) ≡ 2576 + 16 * n =
+      length-append front (parts (openWordsOn b mvs queues) n) ∙ (λ j. length-front j + length-parts 16 (openWordsOn b mvs queues) n (λ i h. length-open _ _ _) j) in
+      let place : 2576 + 16 * n + 8 ≡ 2584 + 16 * n = omega arith in
+      l
+      ∙ put-after words rowed (front ++ parts (openWordsOn b mvs queues) n) (replicate 8 0) (2576 + 16 * n) 8 long-rows r'
+      ∙ append-assoc (front ++ parts (openWordsOn b mvs queues) n) (replicate 8 0) (drop (2576 + 16 * n + 8) words)
+      ∙ append-assoc front (parts (openWordsOn b mvs queues) n) (replicate 8 0 ++ drop (2576 + 16 * n + 8) words)
+      ∙ ap (λ (p : ℕ). front ++ (parts (openWordsOn b mvs queues) n ++ (replicate 8 0 ++ drop p words))) place
+
+-- ---- and that is what Start stores
+
+module _ (b mvs speeds queues : List ℕ) (z : fileNumber b ≡ 0) where
+  abbrev n : ℕ
+  n = headOf b .size
+
+  abbrev c : Case
+  c = startCase (networkOf b) mvs speeds queues
+
+  row-is : (i : ℕ) → i < n → rowOf (c .rows) i ≡ startRow (networkOf b) mvs speeds queues i
+  unfolding startCase networkFrom
+  row-is i l = getD-table (startRow (networkOf b) mvs speeds queues) n i noRow l
+
+  open-row : (i : ℕ) → i < n → codedRow (rowOf (c .rows) i) ≡ openWordsOn b mvs queues i
+  open-row i l = ap codedRow (row-is i l) ∙ made ∙ ap (λ (s : Segment). openWords (getD mvs i 0) (getD queues i 0) (s .most)) (same-segment b z i l)
+    where
+      made : codedRow (startRow (networkOf b) mvs speeds queues i) ≡ openWords (getD mvs i 0) (getD queues i 0) (segmentOf (networkOf b) i .most)
+      made = unfold codedRow startRow openWords in refl
+
+  pub start-words : (words : List ℕ) (paces : List Float) → storedWords (start b mvs speeds queues) (lent words paces) ≡ beginWords b mvs queues n words
+  unfolding storedWords startWords codedWords beginWords startCase networkFrom
+  start-words words paces =
+      sym (append-assoc (keptWords (networkOf b)) (replicate 16 0) _)
+      ∙ (λ j. (keptWords (networkOf b) ++ replicate 16 0) ++ (append-assoc (parts (λ i. codedRow (rowOf (c .rows) i)) n) (replicate 8 0) (drop (caseWord n 1) words)) j)
+      ∙ (λ j. (keptWords (networkOf b) ++ replicate 16 0) ++ (parts-ext _ _ n open-row j ++ (replicate 8 0 ++ drop (place j) words)))
+    where
+      place : caseWord n 1 ≡ 2584 + 16 * n
+      place = omega arith
+
+  pub start-speeds : (words : List ℕ) (paces : List Float) → storedSpeeds (start b mvs speeds queues) (lent words paces) ≡ table (λ i. real (getD speeds i 0)) n ++ drop n paces
+  unfolding storedSpeeds startSpeeds codedSpeeds networkFrom
+  start-speeds words paces =
+      ap (λ (l : List Float). l ++ drop n paces) (table-ext (λ i. rowOf (c .rows) i .speed) (λ i. real (getD speeds i 0)) n (λ i l. ap (λ (r : Row). r .speed) (row-is i l) ∙ (unfold startRow in refl)))

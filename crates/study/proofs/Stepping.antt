@@ -1,0 +1,114 @@
+-- Step: which row refuses it, and what acceptance says.
+use Prim.Native.Nat.{ℕ, _+_, _*_, _≤_, _<_}
+use mathlib.Core.Path.{_≡_, refl, sym, ap, _∙_, subst}
+use mathlib.Core.Bool.{Bool, true, false, _&&_, _||_, not}
+use mathlib.Core.List.{List}
+use native.Mathlib.Omega.{arith}
+use native.Mathlib.Nat.{zero-mul}
+use lib.Dec.{ltb, leb, eqb}
+use lib.ListN.{length, getD, set}
+use lib.Ieee.{Float}
+use borrow.Author.Tests.{le-leb, lt-leb, leb-false}
+use Rattle.laws.specs.First.{row, first, firstOf}
+use Rattle.laws.proofs.First.{row-applies, row-skipped, row-passed, first-some, first-zero, first-zero-left, first-zero-right, firstOf-ext}
+use Rattle.network.specs.declared.Segment.{Segment}
+use Rattle.network.specs.Network.{networkFrom, entryOf, segmentOf}
+use Rattle.network.specs.Words.{headIn, entryIn, segmentIn}
+use Rattle.network.proofs.From.{from-segment}
+use Rattle.model.specs.Words.{netOf, caseIn, stepCaseWords, stepCaseSpeeds}
+use Rattle.model.specs.Ready.{Ready, CaseAt, TotalsOk}
+use Rattle.model.specs.Sound.{arrivalNumber, stepNumber, stepNumberIn}
+use Rattle.model.proofs.SoundLaws.{case-ready, case-total}
+use Rattle.study.specs.Arrangement.{caseWord, caseSpeed, networkAt, sizeAt, runCountAt, caseAt}
+use Rattle.study.specs.Sound.{sound}
+use Rattle.study.specs.Calls.{step}
+use Rattle.study.specs.Refusal.{refusal}
+use Rattle.study.specs.Perform.{lent, refusalAt, storedWords, storedSpeeds}
+use Rattle.study.proofs.Network.{size-word}
+use Rattle.study.proofs.Judging.{placed}
+use Rattle.study.proofs.Sounds.{laid, live-sound, runs-high}
+use Rattle.study.proofs.Performing.{judged}
+
+-- the live case stands first
+pub live-word : (n : ℕ) → caseWord n 0 ≡ 2576
+live-word n = omega arith
+
+module _ (words : List ℕ) (speeds : List Float) (ds : List ℕ) where
+  abbrev net : List ℕ
+  net = netOf words
+
+  -- 13, 15 and 16 look at nothing of the network but its head and the segments that are there
+  same-number : (t : ℕ) → stepNumber (networkAt words .head) (entryOf (networkAt words)) (segmentOf (networkAt words)) t ds ≡ stepNumberIn net t ds
+  unfolding networkFrom stepNumber arrivalNumber
+  same-number t =
+      λ j. row (not (eqb (length ds) (headIn net .size))) 13
+      (first
+      (firstOf-ext _ (arrivalNumber (headIn net) (entryIn net) (segmentIn net) ds) (headIn net .size)
+      (λ i l. ap (λ (s : Segment). row (ltb 1000000 (getD ds i 0) || (eqb (s .origin) 0 && ltb 0 (getD ds i 0))) 15 0) (from-segment (headIn net) (entryIn net) (segmentIn net) i l)) j)
+      (row (leb 20000 t) 16 0))
+
+  abbrev pub stepsWord : ℕ
+  stepsWord = getD words (2576 + 16 * sizeAt words) 0
+
+  steps-are : caseAt words speeds 0 .steps ≡ stepsWord
+  unfolding caseIn
+  steps-are = ap (λ (p : ℕ). getD words (p + 16 * sizeAt words) 0) (live-word (sizeAt words))
+
+  module _ (s : sound words speeds ≡ true) where
+    number-is : refusalAt (step ds) (lent words speeds) ≡ first (stepNumberIn net stepsWord ds) (row (leb 1000000 (runCountAt words)) 16 0)
+    unfolding refusal
+    number-is =
+        judged (step ds) words speeds refl s
+        ∙ ap (λ (x : ℕ). first x (row (leb 1000000 (runCountAt words)) 16 0)) (ap (λ (t : ℕ). stepNumber (networkAt words .head) (entryOf (networkAt words)) (segmentOf (networkAt words)) t ds) steps-are ∙ same-number stepsWord)
+
+    pub step-refused : {r : ℕ} → r ≡ stepNumberIn net stepsWord ds → (r ≡ 0 → ⊥) → r ≡ refusalAt (step ds) (lent words speeds)
+    step-refused e some = e ∙ sym (number-is ∙ first-some _ _ (λ z. some (e ∙ z)))
+
+    module _ (z : stepNumberIn net stepsWord ds ≡ 0) where
+      pub runs-spent : 1000000 ≤ runCountAt words → 16 ≡ refusalAt (step ds) (lent words speeds)
+      runs-spent l = sym (number-is ∙ first-zero _ _ z ∙ row-applies _ _ _ (le-leb _ _ l))
+
+      pub step-taken : runCountAt words < 1000000 → 0 ≡ refusalAt (step ds) (lent words speeds)
+      step-taken l = sym (number-is ∙ first-zero _ _ z ∙ row-skipped _ _ _ (lt-leb _ _ l))
+
+    -- ---- what acceptance says
+    module _ (q : refusalAt (step ds) (lent words speeds) ≡ 0) where
+      both : first (stepNumberIn net stepsWord ds) (row (leb 1000000 (runCountAt words)) 16 0) ≡ 0
+      both = sym number-is ∙ q
+
+      pub runs-left : runCountAt words < 1000000
+      runs-left = leb-false _ _ (row-passed _ _ _ (first-zero-right (stepNumberIn net stepsWord ds) _ both))
+
+      live-case : CaseAt words speeds (caseWord (sizeAt words) 0) (caseSpeed (sizeAt words) 0) (sizeAt words)
+      live-case = placed (laid words speeds s) 0 (omega arith)
+
+      ready : Ready words speeds ds (caseWord (sizeAt words) 0) (caseSpeed (sizeAt words) 0) (sizeAt words)
+      ready = case-ready live-case (live-sound words speeds s) stepsWord ds (first-zero-left _ _ both)
+
+      -- as the code reads n and names the live case's places
+      pub step-ready : Ready words speeds ds 2576 0 (getD words 1 0)
+      step-ready =
+          subst (λ (m : ℕ). Ready words speeds ds 2576 0 m) (size-word words)
+          (subst (λ (p : ℕ). Ready words speeds ds p 0 (sizeAt words)) (live-word (sizeAt words))
+          (subst (λ (p : ℕ). Ready words speeds ds (caseWord (sizeAt words) 0) p (sizeAt words)) (zero-mul (sizeAt words)) ready))
+
+      pub step-totals : TotalsOk words (2576 + 16 * getD words 1 0)
+      step-totals =
+          subst (λ (m : ℕ). TotalsOk words (2576 + 16 * m)) (size-word words)
+          (subst (λ (p : ℕ). TotalsOk words (p + 16 * sizeAt words)) (live-word (sizeAt words)) (case-total live-case (live-sound words speeds s)))
+
+      pub step-long : 2576 + 7 * (16 * getD words 1 0 + 8) ≤ length words
+      step-long = omega (arith, laid words speeds s .room, size-word words)
+
+  -- ---- what is stored, by those places
+  pub step-words : storedWords (step ds) (lent words speeds) ≡ set (stepCaseWords words speeds 2576 0 (getD words 1 0) ds) 2560 (runCountAt words + 1)
+  unfolding storedWords
+  step-words =
+      (λ j. set (stepCaseWords words speeds (live-word (sizeAt words) j) (zero-mul (sizeAt words) j) (sizeAt words) ds) 2560 (runCountAt words + 1))
+      ∙ ap (λ (n : ℕ). set (stepCaseWords words speeds 2576 0 n ds) 2560 (runCountAt words + 1)) (size-word words)
+
+  pub step-speeds : storedSpeeds (step ds) (lent words speeds) ≡ stepCaseSpeeds words speeds 2576 0 (getD words 1 0) ds
+  unfolding storedSpeeds
+  step-speeds =
+      (λ j. stepCaseSpeeds words speeds (live-word (sizeAt words) j) (zero-mul (sizeAt words) j) (sizeAt words) ds)
+      ∙ ap (λ (n : ℕ). stepCaseSpeeds words speeds 2576 0 n ds) (size-word words)

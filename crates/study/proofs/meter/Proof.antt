@@ -1,0 +1,67 @@
+use Prim.Native.Nat.{_+_, _-_}
+use mathlib.Core.Path.{_≡_, refl, sym, ap, _∙_}
+use native.Mathlib.Omega.{arith}
+use borrow.Author.Needs.{needs}
+use Rattle.laws.specs.Lists.{part}
+use Rattle.laws.proofs.Lists.{span}
+use Rattle.laws.proofs.Puts.{part-changed}
+use Rattle.network.specs.declared.Segment.{Segment}
+use Rattle.network.specs.Network.{segmentOf}
+use Rattle.study.specs.Arrangement.{networkAt}
+use Rattle.study.specs.Calls.{meter}
+use Rattle.study.specs.Perform.{refusalAt, rowWord, meteredWords, storedWords, storedSpeeds, answerOf, lent}
+use Rattle.study.proofs.Performing.{refuses, accepts}
+use Rattle.study.proofs.Settings.{RowWithin, meter-within}
+use Rattle.study.proofs.meter.Statement.{statement}
+use Rattle.study.proofs.meter.Tie as tie
+
+abbrev start : tie.Else1 → tie.Start
+start c = c .before .before .before .before .before
+
+accepted : (c : tie.Else1) → let a = start c .args in refusalAt (meter (a .i) (a .setting)) (lent (a .words .now) (a .speeds .now)) ≡ 0
+accepted c = sym (c .before .meter-number .ensures) ∙ c .if1 .left
+
+within : (c : tie.Else1) → let a = start c .args in RowWithin (a .words .now) (a .i)
+within c = meter-within _ _ _ _ (accepted c)
+
+-- where the row is computed and lent
+abbrev row-at : tie.After-segment-at → tie.Else1
+row-at c = c .before .before
+
+returns : tie.Need-returns
+returns c = refuses _ _ _ (c .before .meter-number .ensures) (c .if1 .taken)
+
+segment-at-requires : tie.Need-segment-at-requires
+segment-at-requires c κs = let w = within (c .before) in (omega (arith, w .room), w .low, w .high, w .small)
+
+returns-2 : tie.Need-returns-2
+unfolding storedWords storedSpeeds answerOf
+returns-2 c =
+    let e = c .before .before .before .before in
+    let a = start (row-at e) .args in
+    let at = rowWord (a .i) in
+    let q = segmentOf (networkAt (a .words .now)) (a .i - 1) .most in
+    accepts _ _ _ (accepted (row-at e)) refl
+    (part-changed (a .words .now) _ (meteredWords q (a .setting)) at 16 _ (span at 16)
+    (c .before .before .put-setting .ensures ∙ ap (λ (w : Segment). meteredWords (w .most) (a .setting) (part at (at + 16 - at) (a .words .now))) (e .segment-at .ensures)))
+    refl
+
+pub meter-spec : {M : Type 1} → statement M
+meter-spec =
+    tie.close
+    (tie.spec
+    (λ c κs. search needs)
+    (λ c. search needs)
+    returns
+    segment-at-requires
+    (λ c. within (row-at c) .low)
+    (λ c. omega (arith, within (row-at c)))
+    (λ c. omega (arith, within (row-at c)))
+    (λ c. omega (arith, within (row-at c)))
+    (λ c. omega (arith, within (row-at c)))
+    (λ c. search needs)
+    (λ c. search needs)
+    (λ c. omega (arith, within (row-at c)))
+    (λ c κs. search needs)
+    (λ c. search needs)
+    returns-2)

@@ -1,0 +1,39 @@
+-- Refused, or the figures of the case.
+use mathlib.Core.Path.{_≡_, refl, sym, ap, _∙_}
+use native.Mathlib.Omega.{arith}
+use borrow.Author.Needs.{needs}
+use Rattle.study.specs.declared.CaseFigures.{CaseFigures}
+use Rattle.study.specs.declared.CaseReport.the-variants as caseReport
+use Rattle.study.specs.Calls.{report, caseSays}
+use Rattle.study.specs.Perform.{lent, refusalAt, storedWords, storedSpeeds, answerOf}
+use Rattle.study.proofs.Performing.{refuses, accepts}
+use Rattle.study.proofs.Reporting.{reportable, report-long, counts-summable, queues-summable, case-shown}
+use Rattle.study.proofs.report.Statement.{statement}
+use Rattle.study.proofs.report.Tie as tie
+
+accepted : (c : tie.Else1) → let a = c .before .before .before .before .args in refusalAt (report (a .k)) (lent (a .words .now) (a .speeds .now)) ≡ 0
+accepted c = sym (c .before .case-number .ensures) ∙ c .if1 .left
+
+returns : tie.Need-returns
+returns c = refuses (report _) _ _ (c .before .case-number .ensures) (c .if1 .taken)
+
+shared-slice-read-case-figures : tie.Need-shared-slice-read-case-figures
+shared-slice-read-case-figures c = omega (arith, report-long _ _ _ (accepted (c .before)))
+
+case-figures-requires : tie.Need-case-figures-requires
+case-figures-requires c κs =
+    let p = reportable _ _ _ (accepted (c .before)) in
+    (p .high, (counts-summable p, queues-summable p))
+
+returns-2 : tie.Need-returns-2
+unfolding answerOf storedWords storedSpeeds
+returns-2 c =
+    let z = accepted (c .before .before) in
+    accepts (report _) _ _ z
+    (ap (λ (f : CaseFigures). caseSays (caseReport.Figures f)) (c .case-figures .ensures) ∙ case-shown (reportable _ _ _ z))
+    refl refl
+
+pub report-spec : {M : Type 1} → statement M
+report-spec =
+    tie.close
+    (tie.spec (λ c κs. search needs) returns shared-slice-read-case-figures case-figures-requires returns-2)

@@ -1,0 +1,48 @@
+-- Refused, or the figures of the segment.
+use Prim.Native.Nat.{_-_}
+use mathlib.Core.Path.{_≡_, refl, sym, ap, _∙_}
+use native.Mathlib.Omega.{arith}
+use borrow.Author.Needs.{needs}
+use Rattle.study.specs.declared.SegmentFigures.{SegmentFigures}
+use Rattle.study.specs.declared.SegmentReport.the-variants as segmentReport
+use Rattle.study.specs.Calls.{reportSegment, segmentSays}
+use Rattle.study.specs.Perform.{lent, refusalAt, storedWords, storedSpeeds, answerOf}
+use Rattle.study.proofs.Performing.{refuses, accepts}
+use Rattle.study.proofs.Reporting.{reportable, report-long, segment-accepted, segment-low, segment-high, segment-shown}
+use Rattle.study.proofs.report_segment.Statement.{statement}
+use Rattle.study.proofs.report_segment.Tie as tie
+
+accepted : (c : tie.Else1) → let a = c .before .before .before .before .args in refusalAt (reportSegment (a .k) (a .i)) (lent (a .words .now) (a .speeds .now)) ≡ 0
+accepted c = sym (c .before .segment-number .ensures) ∙ c .if1 .left
+
+returns : tie.Need-returns
+returns c = refuses (reportSegment _ _) _ _ (c .before .segment-number .ensures) (c .if1 .taken)
+
+shared-slice-read-n : tie.Need-shared-slice-read-n
+shared-slice-read-n c = omega (arith, report-long _ _ _ (segment-accepted _ _ _ _ (accepted (c .before))))
+
+segment-figures-requires : tie.Need-segment-figures-requires
+segment-figures-requires c κs =
+    let z = accepted (c .before) in
+    (reportable _ _ _ (segment-accepted _ _ _ _ z), omega (arith, segment-low _ _ _ _ z, segment-high _ _ _ _ z))
+
+returns-2 : tie.Need-returns-2
+unfolding answerOf storedWords storedSpeeds
+returns-2 c =
+    let z = accepted (c .before .before) in
+    let a = c .before .before .before .before .before .before .args in
+    accepts (reportSegment _ _) _ _ z
+    (ap (λ (f : SegmentFigures). segmentSays (segmentReport.Figures f)) (c .segment-figures .ensures)
+    ∙ segment-shown (reportable _ _ _ (segment-accepted _ _ _ _ z)) (a .i - 1) (omega (arith, segment-low _ _ _ _ z, segment-high _ _ _ _ z)))
+    refl refl
+
+pub report-segment-spec : {M : Type 1} → statement M
+report-segment-spec =
+    tie.close
+    (tie.spec
+    (λ c κs. search needs)
+    returns
+    shared-slice-read-n
+    (λ c. segment-low _ _ _ _ (accepted (c .before)))
+    segment-figures-requires
+    returns-2)

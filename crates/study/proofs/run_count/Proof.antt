@@ -1,0 +1,31 @@
+-- Not sound, or the run count's word.
+use mathlib.Core.Path.{_≡_, refl, sym, _∙_}
+use mathlib.Core.Bool.{true}
+use native.Mathlib.Omega.{arith}
+use borrow.Author.Needs.{needs}
+use borrow.Author.Tests.{not-true, not-false}
+use Rattle.study.specs.Calls.{reportRuns}
+use Rattle.study.specs.Sound.{sound}
+use Rattle.study.specs.Refusal.{refusal}
+use Rattle.study.specs.Perform.{storedWords, storedSpeeds, answerOf}
+use Rattle.study.proofs.Sounds.{laid}
+use Rattle.study.proofs.Performing.{refuses, accepts, unsound, judged}
+use Rattle.study.proofs.run_count.Statement.{statement}
+use Rattle.study.proofs.run_count.Tie as tie
+
+fine : (c : tie.Else1) → let a = c .before .before .before .before .args in sound (a .words .now) (a .speeds .now) ≡ true
+fine c = sym (c .before .sound .ensures) ∙ not-false _ (c .if1 .left)
+
+returns : tie.Need-returns
+returns c =
+    refuses reportRuns _ _ (unsound reportRuns _ _ refl (sym (c .before .sound .ensures) ∙ not-true _ (c .if1 .taken))) (λ z. omega (arith, z))
+
+shared-slice-read-t6 : tie.Need-shared-slice-read-t6
+shared-slice-read-t6 c = omega (arith, laid _ _ (fine (c .before)) .room)
+
+returns-2 : tie.Need-returns-2
+unfolding refusal answerOf storedWords storedSpeeds
+returns-2 c = accepts reportRuns _ _ (judged reportRuns _ _ refl (fine (c .before))) refl refl refl
+
+pub run-count-spec : {M : Type 1} → statement M
+run-count-spec = tie.close (tie.spec (λ c κs. search needs) returns shared-slice-read-t6 returns-2)

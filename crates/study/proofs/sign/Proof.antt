@@ -1,0 +1,80 @@
+use Prim.Native.Nat.{_+_, _-_}
+use mathlib.Core.Path.{_≡_, refl, sym, ap, _∙_}
+use native.Mathlib.Omega.{arith}
+use lib.IntN.{ℤ}
+use mir.Syntax.{w64}
+use mir.Val.{toZ, ofZ}
+use mir.ValLaws.{toZ-ofZ}
+use borrow.Author.Needs.{needs}
+use Rattle.laws.specs.Lists.{part}
+use Rattle.laws.proofs.Lists.{span, length-part}
+use Rattle.laws.proofs.Puts.{part-changed}
+use Rattle.study.specs.Calls.{sign}
+use Rattle.study.specs.Change.{complianceBad}
+use Rattle.study.specs.Perform.{refusalAt, rowWord, signedWords, storedWords, storedSpeeds, answerOf, lent}
+use Rattle.study.proofs.Performing.{refuses, accepts}
+use Rattle.study.proofs.Settings.{RowWithin, sign-within, sign-compliance}
+use Rattle.study.proofs.sign.Statement.{statement}
+use Rattle.study.proofs.sign.Tie as tie
+
+abbrev start : tie.After-sign-number → tie.Start
+start c = c .before .before .before .before
+
+-- what the machine reads back from the bits of compliance
+read : (s : tie.Start) → toZ w64 (ofZ w64 (s .args .compliance)) ≡ s .args .compliance
+read s = toZ-ofZ w64 (s .args .compliance) (s .fits .compliance)
+
+number : (c : tie.After-sign-number)
+    → let a = start c .args in c .sign-number .result ≡ refusalAt (sign (a .i) (a .limit) (a .compliance)) (lent (a .words .now) (a .speeds .now))
+number c =
+    let a = start c .args in
+    c .sign-number .ensures ∙ ap (λ (z : ℤ). refusalAt (sign (a .i) (a .limit) z) (lent (a .words .now) (a .speeds .now))) (read (start c))
+
+accepted : (c : tie.Else1)
+    → let a = start (c .before) .args in refusalAt (sign (a .i) (a .limit) (a .compliance)) (lent (a .words .now) (a .speeds .now)) ≡ 0
+accepted c = sym (number (c .before)) ∙ c .if1 .left
+
+within : (c : tie.Else1) → let a = start (c .before) .args in RowWithin (a .words .now) (a .i)
+within c = sign-within _ _ _ _ _ (accepted c)
+
+returns : tie.Need-returns
+returns c = refuses _ _ _ (number (c .before)) (c .if1 .taken)
+
+put-sign-requires : tie.Need-put-sign-requires
+put-sign-requires c κs =
+    let d = c .before in
+    let s = start (d .before) in
+    let w = s .args .words .now in
+    let at = rowWord (s .args .i) in
+    (rw (span at 16) (length-part w at 16 (within d .room)), ap complianceBad (read s) ∙ sign-compliance _ _ _ _ _ (accepted d))
+
+returns-2 : tie.Need-returns-2
+unfolding storedWords storedSpeeds answerOf
+returns-2 c =
+    let d = c .before .before .before .before in
+    let s = start (d .before) in
+    let a = s .args in
+    let at = rowWord (a .i) in
+    accepts _ _ _ (accepted d) refl
+    (part-changed (a .words .now) _ (signedWords (a .limit) (a .compliance)) at 16 _ (span at 16)
+    (c .before .before .put-sign .ensures ∙ ap (λ (z : ℤ). signedWords (a .limit) z (part at (at + 16 - at) (a .words .now))) (read s)))
+    refl
+
+pub sign-spec : {M : Type 1} → statement M
+sign-spec =
+    tie.close
+    (tie.spec
+    (λ c κs. search needs)
+    (λ c. search needs)
+    returns
+    (λ c. within c .low)
+    (λ c. omega (arith, within c))
+    (λ c. omega (arith, within c))
+    (λ c. omega (arith, within c))
+    (λ c. omega (arith, within c))
+    (λ c. search needs)
+    (λ c. search needs)
+    (λ c. omega (arith, within c))
+    put-sign-requires
+    (λ c. search needs)
+    returns-2)

@@ -1,0 +1,76 @@
+-- Refused, with both arrays as they came, or begun.
+use Prim.Native.Nat.{ℕ, _≤_}
+use mathlib.Core.Path.{_≡_, refl, sym, ap, _∙_}
+use mathlib.Core.List.{List, _++_}
+use native.Mathlib.Omega.{arith}
+use lib.ListN.{getD, drop}
+use lib.Ieee.{Float}
+use denote.Ref.{now}
+use borrow.Author.Needs.{needs}
+use Rattle.laws.specs.Lists.{table}
+use Rattle.laws.specs.Real.{real}
+use Rattle.network.specs.declared.Head.{Head}
+use Rattle.network.specs.File.{headOf}
+use Rattle.study.specs.Calls as calls
+use Rattle.study.specs.Perform.{lent, refusalAt, answerOf}
+use Rattle.study.specs.Ready.{beginWords}
+use Rattle.study.proofs.Performing.{refuses, accepts}
+use Rattle.study.proofs.Starting.{start-file, start-room, start-lane, start-listed, start-words, start-speeds}
+use Rattle.study.proofs.start.Statement.{statement}
+use Rattle.study.proofs.start.Tie as tie
+
+abbrev begin : tie.Else1 → tie.Start
+begin c = c .before .before .before .before .before .before .before .before .before .before
+
+taken : (c : tie.Else1) → let a = begin c .args in refusalAt (calls.start (now (a .file)) (now (a .mvs)) (now (a .starts)) (now (a .queues))) (lent (now (a .words)) (now (a .speeds))) ≡ 0
+taken c = sym (c .before .start-number .ensures) ∙ c .if1 .left
+
+size : (c : tie.After-head-of) → c .head-of .result .size ≡ headOf (now (begin (c .before) .args .file)) .size
+size c = ap (λ (h : Head). h .size) (c .head-of .ensures)
+
+returns : tie.Need-returns
+returns c = refuses (calls.start _ _ _ _) _ _ (c .before .start-number .ensures) (c .if1 .taken)
+
+put-words-requires : tie.Need-put-words-requires
+put-words-requires c κs =
+    let h = c .before in
+    let z = taken (h .before) in
+    let l = start-listed _ _ _ _ _ _ z in (
+      (start-file _ _ _ _ _ _ z, size h),
+      (omega (arith, l .mvs-many, size h), omega (arith, l .queues-many, size h), omega (arith, start-room _ _ _ _ _ _ z, size h)),
+    )
+
+put-speeds-requires : tie.Need-put-speeds-requires
+put-speeds-requires c κs =
+    let h = c .before .before .before .before .before in
+    let z = taken (h .before) in
+    (omega (arith, start-listed _ _ _ _ _ _ z .speeds-many, size h), omega (arith, start-lane _ _ _ _ _ _ z, size h))
+
+returns-2 : tie.Need-returns-2
+unfolding answerOf
+returns-2 c =
+    let made = c .before .before .before .before .before .before in
+    let h = made .before .before in
+    let a = begin (h .before) .args in
+    let z = taken (h .before) in
+    let f = start-file _ _ _ _ _ _ z in
+    accepts (calls.start _ _ _ _) _ _ z refl
+    (made .put-words .ensures ∙ ap (λ (n : ℕ). beginWords (now (a .file)) (now (a .mvs)) (now (a .queues)) n (now (a .words))) (size h) ∙ sym (start-words _ _ _ _ f _ _))
+    (c .before .before .put-speeds .ensures
+    ∙ ap (λ (n : ℕ). table (λ i. real (getD (now (a .starts)) i 0)) n ++ drop n (now (a .speeds))) (size h)
+    ∙ sym (start-speeds _ _ _ _ f _ _))
+
+pub start-spec : {M : Type 1} → statement M
+start-spec =
+    tie.close
+    (tie.spec
+    (λ c κs. search needs)
+    (λ c. search needs)
+    (λ c. search needs)
+    returns
+    (λ c κs. search needs)
+    put-words-requires
+    put-speeds-requires
+    (λ c. search needs)
+    (λ c. search needs)
+    returns-2)

@@ -1,0 +1,69 @@
+-- What a report reads in the words and speeds.
+use Prim.Native.Nat.{ℕ, _+_, _*_, _≤_, _<_}
+use mathlib.Core.Path.{_≡_}
+use mathlib.Core.Bool.{true, false, not}
+use mathlib.Core.List.{List}
+use lib.ListN.{length, getD}
+use lib.Dec.{T}
+use lib.IntN.{pos}
+use lib.Ieee.{Float, fin, binary64, isNan, lt, toBits, toUnsigned}
+use Rattle.laws.specs.Sums.{sumOf}
+use Rattle.network.specs.declared.Segment.{Segment}
+use Rattle.model.specs.declared.Row.{Row}
+use Rattle.model.specs.Step.{rateOf}
+use Rattle.model.specs.Sound.{mvMost}
+use Rattle.study.specs.declared.CaseFigures.{CaseFigures}
+use Rattle.study.specs.declared.SegmentFigures.{SegmentFigures}
+use Rattle.study.specs.Sound.{placeNumber}
+use Rattle.study.specs.Ready.{Laid}
+
+-- figure o of row i of the case whose rows start at word at: 0 is N, 1 is w
+abbrev pub figureAt : List ℕ → ℕ → ℕ → ℕ → ℕ
+figureAt words at o i = getD words (at + 16 * i + o) 0
+
+-- the figures of that case, which has n rows
+unfoldable pub figuresAt : List ℕ → ℕ → ℕ → CaseFigures
+figuresAt words at n =
+    record {
+      steps = getD words (at + 16 * n) 0;
+      segments = sumOf (figureAt words at 0) n;
+      queues = sumOf (figureAt words at 1) n;
+      arrivals = getD words (at + 16 * n + 1) 0;
+      exits = getD words (at + 16 * n + 2) 0;
+      time = getD words (at + 16 * n + 3) 0;
+    }
+
+-- the figures of a segment, from its row
+unfoldable pub rowFigures : Segment → Row → SegmentFigures
+unfolding rateOf
+rowFigures s r =
+    record {
+      count = r .count;
+      whole = toUnsigned 64 (r .speed);
+      bits = toBits binary64 (r .speed);
+      queue = r .queue;
+      outflow = r .outflow;
+      release = r .release;
+      rate = rateOf s r;
+    }
+
+-- ---- what reading them rests on
+
+-- the case stands in the words, and figure o of its rows can be summed
+pub record Summable (words : List ℕ) (at o n : ℕ) : Type 0 where
+  pub many : n ≤ 40
+  pub room : at + 16 * n + 8 ≤ length words
+  pub inside : o < 8
+  pub high : (i : ℕ) → i < n → figureAt words at o i ≤ mvMost
+
+-- a report may be given of case k of a study of n segments
+pub record Reportable (words : List ℕ) (speeds : List Float) (n k : ℕ) : Type 0 where
+  pub laid : Laid words speeds n
+  pub high : k ≤ 6
+  pub sound : placeNumber words speeds k ≡ 0
+
+-- a speed has a whole part that 64 bits hold, and it has bits
+pub record Showable (v : Float) : Type 0 where
+  pub above : T (lt (fin true 1 (pos 0)) v)
+  pub under : T (lt v (fin false 1 (pos 64)))
+  pub number : T (not (isNan v))

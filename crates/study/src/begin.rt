@@ -1,0 +1,163 @@
+// Start: what refuses it, and the study that it puts into the arrays.
+use crate::copy;
+ghost use mathlib.Core.Path.{_≡_};
+ghost use Prim.Native.Nat.{_+_, _*_, _<_, _≤_};
+ghost use lib.ListN.{length, getD, drop, replicate};
+ghost use mathlib.Core.List.{_++_};
+ghost use Rattle.laws.specs.First.{firstOf};
+ghost use Rattle.laws.specs.Lists.{table, putPart, puts};
+ghost use Rattle.laws.specs.Real.{real};
+ghost use Rattle.network.specs.File.{fileNumber, headOf, segmentOn};
+ghost use Rattle.study.specs.Calls.{start};
+ghost use Rattle.study.specs.Start.{startSegmentNumber};
+ghost use Rattle.study.specs.Perform.{lent, refusalAt};
+ghost use Rattle.study.specs.Ready.{startNumberOn, Listed, openWords, openWordsOn, beginWords};
+
+fn wide(x: u32) -> u64
+    ensures { λ r. ⌜ r ≡ x ⌝ }
+{
+    x as u64
+}
+
+// Number i of a list.
+fn entry(list: &[u32], i: usize) -> u64
+    requires { ⌜ i < length (now list) ⌝ }
+    ensures { λ r. ⌜ r ≡ getD (now (list .entry)) i 0 ⌝ }
+{
+    wide(list[i])
+}
+
+// 14, of a segment whose curve begins at top, for its mv, speed and queue.
+fn value_number(s: network::Segment, top: u64, mv: u64, speed: u64, queue: u64) -> u64
+    requires { ⌜ (s .jam ≤ 200) × (s .metres ≤ 2000) × (s .lanes ≤ 8) ⌝ }
+    ensures { λ r. ⌜ r ≡ startSegmentNumber s top mv speed queue ⌝ }
+{
+    let full = s.jam * (s.metres * s.lanes);
+    if (full < mv)
+        | ((speed < 1000) | (top < speed))
+        | (1000000 < queue)
+        | ((s.origin == 0) & (0 < queue))
+    {
+        return 14;
+    }
+    0
+}
+
+// 14, of segment i, counted from 0.
+fn segment_number(file: &[u8], mvs: &[u32], starts: &[u32], queues: &[u32], i: usize) -> u64
+    requires { ⌜ Listed (now file) (now mvs) (now starts) (now queues) ⌝ }
+    requires { ⌜ i < headOf (now file) .size ⌝ }
+    ensures { λ r. ⌜ r ≡ startNumberOn (now (file .entry)) (now (mvs .entry)) (now (starts .entry)) (now (queues .entry)) i ⌝ }
+{
+    let s = network::segment_of(file, i as u32);
+    let top = network::entry_of(file, s.curve as u32, 0);
+    let mv = entry(mvs, i);
+    let speed = entry(starts, i);
+    let queue = entry(queues, i);
+    value_number(s, top, mv, speed, queue)
+}
+
+fn segments_number(file: &[u8], mvs: &[u32], starts: &[u32], queues: &[u32], n: usize) -> u64
+    requires { ⌜ Listed (now file) (now mvs) (now starts) (now queues) ⌝ }
+    requires { ⌜ n ≡ headOf (now file) .size ⌝ }
+    ensures { λ r. ⌜ r ≡ firstOf (startNumberOn (now (file .entry)) (now (mvs .entry)) (now (starts .entry)) (now (queues .entry))) n ⌝ }
+{
+    let mut i = 0;
+    while i < n {
+        let r = segment_number(file, mvs, starts, queues, i);
+        if r != 0 {
+            return r;
+        }
+        i += 1;
+    }
+    0
+}
+
+// The file's rows, then 11, 13 and 14.
+pub(crate) fn start_number(
+    words: &[u64],
+    speeds: &[f64],
+    file: &[u8],
+    mvs: &[u32],
+    starts: &[u32],
+    queues: &[u32],
+) -> u64
+    ensures { λ r. ⌜ r ≡ refusalAt (start (now (file .entry)) (now (mvs .entry)) (now (starts .entry)) (now (queues .entry))) (lent (now (words .entry)) (now (speeds .entry))) ⌝ }
+{
+    let r = network::check(file);
+    if r != 0 {
+        return r;
+    }
+    let h = network::head_of(file);
+    let n = h.size as usize;
+    if (words.len() < 2576 + 7 * (16 * n + 8)) | (speeds.len() < 7 * n) {
+        return 11;
+    }
+    if (mvs.len() != n) | (starts.len() != n) | (queues.len() != n) {
+        return 13;
+    }
+    segments_number(file, mvs, starts, queues, n)
+}
+
+// A row at the start: dark sign, open ramp with R at Q, flows 0.
+fn row_words(mv: u64, queue: u64, most: u64) -> [u64; 16]
+    ensures { λ r. ⌜ r ≡ openWords mv queue most ⌝ }
+{
+    [mv, queue, 0, 0, 0, most, 0, 0, 0, 0, 0, 0, 0, 0, 0, 0]
+}
+
+// Writes the row of segment i, counted from 0, over the part that it is lent.
+fn put_row(row: &mut [u64], file: &[u8], mvs: &[u32], queues: &[u32], i: usize)
+    requires { ⌜ (length (now row) ≡ 16) × (i < 40) × (i < length (now mvs)) × (i < length (now queues)) ⌝ }
+    ensures { λ _. ⌜ now (row .exit) ≡ openWords (getD (now (mvs .entry)) i 0) (getD (now (queues .entry)) i 0) (segmentOn (now (file .entry)) i .most) ⌝ }
+{
+    let s = network::segment_of(file, i as u32);
+    let made = row_words(entry(mvs, i), entry(queues, i), s.most);
+    copy::fill_words(row, &made);
+}
+
+// Writes the rows of the live case.
+fn put_rows(words: &mut [u64], file: &[u8], mvs: &[u32], queues: &[u32], n: usize)
+    requires { ⌜ (n ≤ 40) × (n ≤ length (now mvs)) × (n ≤ length (now queues)) × (2576 + 16 * n ≤ length (now words)) ⌝ }
+    ensures { λ _. ⌜ now (words .exit) ≡ puts 16 (openWordsOn (now (file .entry)) (now (mvs .entry)) (now (queues .entry))) 2576 n (now (words .entry)) ⌝ }
+{
+    let mut i = 0;
+    while i < n {
+        let to = 2576 + 16 * i;
+        put_row(&mut words[to..to + 16], file, mvs, queues, i);
+        i += 1;
+    }
+}
+
+// Writes the speeds of the live case.
+pub(crate) fn put_speeds(speeds: &mut [f64], starts: &[u32], n: usize)
+    requires { ⌜ (n ≤ length (now starts)) × (n ≤ length (now speeds)) ⌝ }
+    ensures { λ _. ⌜ now (speeds .exit) ≡ table (λ i. real (getD (now (starts .entry)) i 0)) n ++ drop n (now (speeds .entry)) ⌝ }
+{
+    let mut i = 0;
+    while i < n {
+        speeds[i] = starts[i] as f64;
+        i += 1;
+    }
+}
+
+// Writes zeros over the len words from at on, at most 16.
+fn put_zeros(words: &mut [u64], at: usize, len: usize)
+    requires { ⌜ (len ≤ 16) × (at + len ≤ length (now words)) ⌝ }
+    ensures { λ _. ⌜ now (words .exit) ≡ putPart at len (replicate len 0) (now (words .entry)) ⌝ }
+{
+    let zeros = [0; 16];
+    copy::fill_words(&mut words[at..at + len], &zeros);
+}
+
+// Writes the network, the run count and the marks, and the words of the live case.
+pub(crate) fn put_words(words: &mut [u64], file: &[u8], mvs: &[u32], queues: &[u32], n: usize)
+    requires { ⌜ (fileNumber (now file) ≡ 0) × (n ≡ headOf (now file) .size) ⌝ }
+    requires { ⌜ (n ≤ length (now mvs)) × (n ≤ length (now queues)) × (2584 + 16 * n ≤ length (now words)) ⌝ }
+    ensures { λ _. ⌜ now (words .exit) ≡ beginWords (now (file .entry)) (now (mvs .entry)) (now (queues .entry)) n (now (words .entry)) ⌝ }
+{
+    network::keep(file, words);
+    put_zeros(words, 2560, 16);
+    put_rows(words, file, mvs, queues, n);
+    put_zeros(words, 2576 + 16 * n, 8);
+}

@@ -1,0 +1,93 @@
+// The figures that a report gives.
+use crate::CaseFigures;
+use crate::SegmentFigures;
+use network::Segment;
+ghost use mathlib.Core.Path.{_≡_};
+ghost use mathlib.Core.Bool.{cond};
+ghost use Prim.Native.Nat.{_<_, _≤_};
+ghost use lib.Dec.{eqb};
+ghost use lib.ListN.{length};
+ghost use Rattle.laws.specs.Sums.{sumOf};
+ghost use Rattle.network.specs.Words.{segmentIn};
+ghost use Rattle.model.specs.Case.{openKind};
+ghost use Rattle.model.specs.Words.{netOf, rowIn, rowAt};
+ghost use Rattle.study.specs.Arrangement.{caseWord, caseSpeed};
+ghost use Rattle.study.specs.Figures.{figureAt, figuresAt, rowFigures, Summable, Reportable, Showable};
+
+// The sum of figure o of the n rows that start at word at.
+fn column(words: &[u64], at: usize, o: usize, n: usize) -> u64
+    requires { ⌜ Summable (now words) at o n ⌝ }
+    ensures { λ r. ⌜ r ≡ sumOf (figureAt (now (words .entry)) at o) n ⌝ }
+{
+    let mut sum: u64 = 0;
+    let mut i: usize = 0;
+    while i < n {
+        sum = sum + words[at + 16 * i + o];
+        i += 1;
+    }
+    sum
+}
+
+// The figures of case k.
+pub(crate) fn case_figures(words: &[u64], n: usize, k: usize) -> CaseFigures
+    requires { ⌜ k ≤ 6 ⌝ }
+    requires { ⌜ Summable (now words) (caseWord n k) 0 n ⌝ }
+    requires { ⌜ Summable (now words) (caseWord n k) 1 n ⌝ }
+    ensures { λ r. ⌜ r ≡ figuresAt (now (words .entry)) (caseWord n k) n ⌝ }
+{
+    let at = 2576 + k * (16 * n + 8);
+    let e = at + 16 * n;
+    CaseFigures {
+        steps: words[e],
+        segments: column(words, at, 0, n),
+        queues: column(words, at, 1, n),
+        arrivals: words[e + 1],
+        exits: words[e + 2],
+        time: words[e + 3],
+    }
+}
+
+// R as reported: Q where open.
+fn rate_of(kind: u64, most: u64, rate: u64) -> u64
+    ensures { λ r. ⌜ r ≡ cond (eqb kind openKind) most rate ⌝ }
+{
+    if kind == 0 {
+        return most;
+    }
+    rate
+}
+
+// The figures of the segment s, whose row starts these words and whose speed is v.
+fn row_figures(s: Segment, w: &[u64], v: f64) -> SegmentFigures
+    requires { ⌜ 16 ≤ length (now w) ⌝ }
+    requires { ⌜ Showable v ⌝ }
+    ensures { λ r. ⌜ r ≡ rowFigures s (rowIn (now (w .entry)) v) ⌝ }
+{
+    SegmentFigures {
+        count: w[0],
+        whole: std::num::truncating_f64_to_u64(v),
+        bits: f64::to_bits(v),
+        queue: w[1],
+        outflow: w[10],
+        release: w[11],
+        rate: rate_of(w[4], s.most, w[5]),
+    }
+}
+
+// The figures of segment i, counted from 0, of case k.
+pub(crate) fn segment_figures(
+    words: &[u64],
+    speeds: &[f64],
+    n: usize,
+    k: usize,
+    i: usize,
+) -> SegmentFigures
+    requires { ⌜ Reportable (now words) (now speeds) n k ⌝ }
+    requires { ⌜ i < n ⌝ }
+    ensures { λ r. ⌜ r ≡ rowFigures (segmentIn (netOf (now (words .entry))) i) (rowAt (now (words .entry)) (now (speeds .entry)) (caseWord n k) (caseSpeed n k) i) ⌝ }
+{
+    let a = 2576 + k * (16 * n + 8) + 16 * i;
+    let b = k * n + i;
+    let s = network::kept_segment(&words[..2560], i as u32);
+    row_figures(s, &words[a..], speeds[b])
+}

@@ -1,0 +1,168 @@
+// The number that refuses a call: 12 where the study is not sound, then the rows of its part of the table in their order, or 0.
+use crate::Setting;
+use crate::segment;
+ghost use mathlib.Core.Path.{_≡_};
+ghost use Rattle.laws.specs.First.{outside};
+ghost use Rattle.study.specs.Calls.{sign, meter, step, hold, recall, report, reportSegment};
+ghost use Rattle.study.specs.Change.{complianceBad, signRefused, settingRefused};
+ghost use Rattle.study.specs.Perform.{lent, refusalAt};
+
+// Whether x is not one of least..most.
+pub(crate) fn outside(least: u64, x: u64, most: u64) -> bool
+    ensures { λ r. ⌜ r ≡ outside least x most ⌝ }
+{
+    (x < least) | (most < x)
+}
+
+fn compliance_bad(compliance: i64) -> bool
+    ensures { λ r. ⌜ r ≡ complianceBad compliance ⌝ }
+{
+    (compliance < -500) | (500 < compliance)
+}
+
+// 18.
+fn sign_bad(limit: u64, compliance: i64) -> bool
+    ensures { λ r. ⌜ r ≡ signRefused limit compliance ⌝ }
+{
+    ((limit != 0) & outside(20, limit, 200)) | compliance_bad(compliance)
+}
+
+// 20, where the segment's Q is most.
+fn setting_bad(most: u64, setting: Setting) -> bool
+    ensures { λ r. ⌜ r ≡ settingRefused most setting ⌝ }
+{
+    match setting {
+        Setting::Open => false,
+        Setting::Fixed(rate) => most < rate,
+        Setting::Alinea {
+            target,
+            gain,
+            least,
+            interval,
+        } => {
+            outside(1, target, 199)
+                | outside(1, gain, 60000)
+                | (most < least)
+                | outside(1, interval, 60)
+        }
+    }
+}
+
+// Sign: 12, 17, 18.
+pub(crate) fn sign_number(words: &[u64], speeds: &[f64], i: u64, limit: u64, compliance: i64) -> u64
+    ensures { λ r. ⌜ r ≡ refusalAt (sign i limit compliance) (lent (now (words .entry)) (now (speeds .entry))) ⌝ }
+{
+    if !crate::sound(words, speeds) {
+        return 12;
+    }
+    if segment::segment_missing(words, i) {
+        return 17;
+    }
+    if sign_bad(limit, compliance) {
+        return 18;
+    }
+    0
+}
+
+// Meter: 12, 17, 19, 20.
+pub(crate) fn meter_number(words: &[u64], speeds: &[f64], i: u64, setting: Setting) -> u64
+    ensures { λ r. ⌜ r ≡ refusalAt (meter i setting) (lent (now (words .entry)) (now (speeds .entry))) ⌝ }
+{
+    if !crate::sound(words, speeds) {
+        return 12;
+    }
+    if segment::segment_missing(words, i) {
+        return 17;
+    }
+    let s = segment::segment_at(words, i);
+    if (i == 1) | (s.origin == 0) {
+        return 19;
+    }
+    if setting_bad(s.most, setting) {
+        return 20;
+    }
+    0
+}
+
+// Step: 12, 13, 15, 16.
+pub(crate) fn step_number(words: &[u64], speeds: &[f64], arrivals: &[u32]) -> u64
+    ensures { λ r. ⌜ r ≡ refusalAt (step (now (arrivals .entry))) (lent (now (words .entry)) (now (speeds .entry))) ⌝ }
+{
+    if !crate::sound(words, speeds) {
+        return 12;
+    }
+    let n = words[1] as usize;
+    let r = model::step_number(&words[..2560], arrivals, n, words[2576 + 16 * n]);
+    if r != 0 {
+        return r;
+    }
+    if 1000000 <= words[2560] {
+        return 16;
+    }
+    0
+}
+
+// Hold: 12; 21 no such slot; 22 a filled one.
+pub(crate) fn hold_number(words: &[u64], speeds: &[f64], k: u64) -> u64
+    ensures { λ r. ⌜ r ≡ refusalAt (hold k) (lent (now (words .entry)) (now (speeds .entry))) ⌝ }
+{
+    if !crate::sound(words, speeds) {
+        return 12;
+    }
+    if (k < 1) | (6 < k) {
+        return 21;
+    }
+    if words[2560 + k as usize] == 1 {
+        return 22;
+    }
+    0
+}
+
+// Recall, and Drop by the same rows: 12; 21 no such slot; 23 an empty one.
+pub(crate) fn recall_number(words: &[u64], speeds: &[f64], k: u64) -> u64
+    ensures { λ r. ⌜ r ≡ refusalAt (recall k) (lent (now (words .entry)) (now (speeds .entry))) ⌝ }
+{
+    if !crate::sound(words, speeds) {
+        return 12;
+    }
+    if (k < 1) | (6 < k) {
+        return 21;
+    }
+    if words[2560 + k as usize] != 1 {
+        return 23;
+    }
+    0
+}
+
+// Report of case k: 21 no such slot; 23 an empty one. Case 0 is the live one.
+pub(crate) fn case_number(words: &[u64], speeds: &[f64], k: u64) -> u64
+    ensures { λ r. ⌜ r ≡ refusalAt (report k) (lent (now (words .entry)) (now (speeds .entry))) ⌝ }
+{
+    if !crate::sound(words, speeds) {
+        return 12;
+    }
+    if 6 < k {
+        return 21;
+    }
+    if k == 0 {
+        return 0;
+    }
+    if words[2560 + k as usize] != 1 {
+        return 23;
+    }
+    0
+}
+
+// Report of segment i of case k: 17 segment outside 1..n, after 21 and 23.
+pub(crate) fn segment_number(words: &[u64], speeds: &[f64], k: u64, i: u64) -> u64
+    ensures { λ r. ⌜ r ≡ refusalAt (reportSegment k i) (lent (now (words .entry)) (now (speeds .entry))) ⌝ }
+{
+    let r = case_number(words, speeds, k);
+    if r != 0 {
+        return r;
+    }
+    if (i < 1) | (words[1] < i) {
+        return 17;
+    }
+    0
+}

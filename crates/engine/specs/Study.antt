@@ -1,5 +1,7 @@
 -- What a call on a study says to C: a number, and figures put into lent words.
 use Prim.Native.Nat.{ℕ}
+use mathlib.Core.Path.{_≡_}
+use mathlib.Core.Bool.{not}
 use mathlib.Core.List.{List, [], _++_}
 use lib.Dec.{ltb}
 use lib.ListN.{length, drop}
@@ -9,36 +11,49 @@ use Rattle.study.specs.Calls.{Call, Answer, refused, accepted, figures}
 use Rattle.study.specs.Perform.{lent, perform}
 use Rattle.study.specs.Sound.{sound}
 
--- the number that refused the call, or 0
+-- 12 where the study is not sound, or 0
+abbrev pub soundness : List ℕ → List Float → ℕ
+soundness words speeds = row (not (sound words speeds)) 12 0
+
+-- the number that refused a call, or 0
 abbrev pub numberOf : Answer → ℕ
 numberOf (refused number) = number
 numberOf accepted = 0
 numberOf (figures f) = 0
 
-abbrev pub figuresIn : Answer → List ℕ
-figuresIn (refused number) = []
-figuresIn accepted = []
-figuresIn (figures f) = f
+-- the figures of a report
+abbrev pub figuresOf : Answer → List ℕ
+figuresOf (refused number) = []
+figuresOf accepted = []
+figuresOf (figures f) = f
 
--- 12 where the study is not sound, or 0
-abbrev pub soundness : List ℕ → List Float → ℕ
-soundness words speeds = row (not (sound words speeds)) 12 0
+-- ---- a call that changes the study: its number, and both arrays afterwards, are what `perform` gives
+pub record Called (c : Call) (words : List ℕ) (speeds : List Float) (r : ℕ) (words' : List ℕ) (speeds' : List Float) : Type 0 where
+  pub number : r ≡ numberOf (perform c (lent words speeds) .answer)
+  pub words-are : words' ≡ perform c (lent words speeds) .state .words
+  pub speeds-are : speeds' ≡ perform c (lent words speeds) .state .speeds
 
--- the call's number
-abbrev pub callNumber : Call → List ℕ → List Float → ℕ
-callNumber c words speeds = numberOf (perform c (lent words speeds) .answer)
+-- ---- figures put into the lent words out
 
-abbrev pub callWords : Call → List ℕ → List Float → List ℕ
-callWords c words speeds = perform c (lent words speeds) .state .words
+-- 24 where fewer words are lent than there are figures
+unfoldable pub putNumber : List ℕ → List ℕ → ℕ
+putNumber xs out = row (ltb (length out) (length xs)) 24 0
 
-abbrev pub callSpeeds : Call → List ℕ → List Float → List Float
-callSpeeds c words speeds = perform c (lent words speeds) .state .speeds
+-- where they are too few, they stay as they came; later words stay
+unfoldable pub putFigures : List ℕ → List ℕ → List ℕ
+putFigures xs out = ifAccepted (putNumber xs out) (xs ++ drop (length xs) out) out
 
--- a report of m figures into out: the call's number, then 24 where they are not lent
-unfoldable pub reportNumber : Call → ℕ → List ℕ → List Float → List ℕ → ℕ
-reportNumber c m words speeds out = first (callNumber c words speeds) (row (ltb (length out) m) 24 0)
+-- the number that an answer gives with these words: that which refused the call, then 24
+unfoldable pub reportNumber : Answer → List ℕ → ℕ
+reportNumber answer out = first (numberOf answer) (putNumber (figuresOf answer) out)
 
--- a refused report leaves the words as they came; later words stay
-unfoldable pub reportWords : Call → ℕ → List ℕ → List Float → List ℕ → List ℕ
-reportWords c m words speeds out =
-    ifAccepted (reportNumber c m words speeds out) (figuresIn (perform c (lent words speeds) .answer) ++ drop m out) out
+-- a refused report leaves the words as they came
+unfoldable pub reportWords : Answer → List ℕ → List ℕ
+reportWords answer out = ifAccepted (numberOf answer) (putFigures (figuresOf answer) out) out
+
+-- a report: its number and figures are of the answer that `perform` gives, and the study stays
+pub record Reported (c : Call) (words : List ℕ) (speeds : List Float) (out : List ℕ) (r : ℕ) (out' : List ℕ) : Type 0 where
+  pub number : r ≡ reportNumber (perform c (lent words speeds) .answer) out
+  pub figures-are : out' ≡ reportWords (perform c (lent words speeds) .answer) out
+  pub words-stay : words ≡ perform c (lent words speeds) .state .words
+  pub speeds-stay : speeds ≡ perform c (lent words speeds) .state .speeds

@@ -1,10 +1,16 @@
 // The C interface: include/engine.h declares these functions for C. A slice passes as a pointer and a length.
+mod report; // report.rt: figures put into lent words
+
 ghost use mathlib.Core.Path.{_≡_};
 ghost use Rattle.network.specs.File.{fileNumber};
 ghost use Rattle.network.specs.Curve.{curveCallNumber};
 ghost use Rattle.network.specs.Words.{writeNumber, writeBytes};
 ghost use Rattle.model.specs.Sound.{singleNumber, singleWords, singleSpeeds};
+ghost use Rattle.study.specs.declared.Setting.the-variants.{Open, Fixed, Alinea};
+ghost use Rattle.study.specs.Calls.{start, sign, meter, step, hold, recall, dropSlot, report, reportSegment, reportRuns, verdictSays};
+ghost use Rattle.study.specs.Write.{writtenBytes, writeAnswer, writtenSays};
 ghost use Rattle.engine.specs.Place.{placeNumber, placeWords};
+ghost use Rattle.engine.specs.Study.{soundness, numberOf, Called, Reported};
 
 // The number that refuses a network file, and 0 where it is accepted.
 #[no_mangle]
@@ -59,4 +65,171 @@ pub extern "C" fn case_step(words: &mut [u64], speeds: &mut [f64], arrivals: &[u
     ensures { λ _. ⌜ now (speeds .exit) ≡ singleSpeeds (now (words .entry)) (now (speeds .entry)) (now (arrivals .entry)) ⌝ }
 {
     model::single_step(words, speeds, arrivals)
+}
+
+// ---- a study; docs/ARRANGEMENT.md says where it stands in the two arrays
+
+// The number that a verdict says, or 0.
+fn number_of(verdict: study::Verdict) -> u64
+    ensures { λ r. ⌜ r ≡ numberOf (verdictSays verdict) ⌝ }
+{
+    match verdict {
+        study::Verdict::Refused(number) => number,
+        study::Verdict::Accepted => 0,
+    }
+}
+
+// 12 where the arrays do not hold a sound study, or 0.
+#[no_mangle]
+pub extern "C" fn study_sound(words: &[u64], speeds: &[f64]) -> u64
+    ensures { λ r. ⌜ r ≡ soundness (now (words .entry)) (now (speeds .entry)) ⌝ }
+{
+    if study::sound(words, speeds) {
+        return 0;
+    }
+    12
+}
+
+// Begins a study on a network file.
+#[no_mangle]
+pub extern "C" fn study_start(
+    words: &mut [u64],
+    speeds: &mut [f64],
+    file: &[u8],
+    mvs: &[u32],
+    starts: &[u32],
+    queues: &[u32],
+) -> u64
+    ensures { λ r. ⌜ Called (start (now (file .entry)) (now (mvs .entry)) (now (starts .entry)) (now (queues .entry))) (now (words .entry)) (now (speeds .entry)) r (now (words .exit)) (now (speeds .exit)) ⌝ }
+{
+    number_of(study::start(words, speeds, file, mvs, starts, queues))
+}
+
+// The sign of a segment of the live case.
+#[no_mangle]
+pub extern "C" fn study_sign(
+    words: &mut [u64],
+    speeds: &[f64],
+    segment: u64,
+    limit: u64,
+    compliance: i64,
+) -> u64
+    ensures { λ r. ⌜ Called (sign segment limit compliance) (now (words .entry)) (now (speeds .entry)) r (now (words .exit)) (now (speeds .entry)) ⌝ }
+{
+    number_of(study::sign(words, speeds, segment, limit, compliance))
+}
+
+// The setting of a segment's ramp in the live case: open, fixed, or ALINEA.
+#[no_mangle]
+pub extern "C" fn study_meter_open(words: &mut [u64], speeds: &[f64], segment: u64) -> u64
+    ensures { λ r. ⌜ Called (meter segment Open) (now (words .entry)) (now (speeds .entry)) r (now (words .exit)) (now (speeds .entry)) ⌝ }
+{
+    number_of(study::meter(words, speeds, segment, study::Setting::Open))
+}
+
+#[no_mangle]
+pub extern "C" fn study_meter_fixed(
+    words: &mut [u64],
+    speeds: &[f64],
+    segment: u64,
+    rate: u64,
+) -> u64
+    ensures { λ r. ⌜ Called (meter segment (Fixed rate)) (now (words .entry)) (now (speeds .entry)) r (now (words .exit)) (now (speeds .entry)) ⌝ }
+{
+    number_of(study::meter(words, speeds, segment, study::Setting::Fixed(rate)))
+}
+
+#[no_mangle]
+pub extern "C" fn study_meter_alinea(
+    words: &mut [u64],
+    speeds: &[f64],
+    segment: u64,
+    target: u64,
+    gain: u64,
+    least: u64,
+    interval: u64,
+) -> u64
+    ensures { λ r. ⌜ Called (meter segment (Alinea target gain least interval)) (now (words .entry)) (now (speeds .entry)) r (now (words .exit)) (now (speeds .entry)) ⌝ }
+{
+    let setting = study::Setting::Alinea {
+        target,
+        gain,
+        least,
+        interval,
+    };
+    number_of(study::meter(words, speeds, segment, setting))
+}
+
+// One step of the live case.
+#[no_mangle]
+pub extern "C" fn study_step(words: &mut [u64], speeds: &mut [f64], arrivals: &[u32]) -> u64
+    ensures { λ r. ⌜ Called (step (now (arrivals .entry))) (now (words .entry)) (now (speeds .entry)) r (now (words .exit)) (now (speeds .exit)) ⌝ }
+{
+    number_of(study::step(words, speeds, arrivals))
+}
+
+// The live case into a slot.
+#[no_mangle]
+pub extern "C" fn study_hold(words: &mut [u64], speeds: &mut [f64], slot: u64) -> u64
+    ensures { λ r. ⌜ Called (hold slot) (now (words .entry)) (now (speeds .entry)) r (now (words .exit)) (now (speeds .exit)) ⌝ }
+{
+    number_of(study::hold(words, speeds, slot))
+}
+
+// A slot's case over the live one.
+#[no_mangle]
+pub extern "C" fn study_recall(words: &mut [u64], speeds: &mut [f64], slot: u64) -> u64
+    ensures { λ r. ⌜ Called (recall slot) (now (words .entry)) (now (speeds .entry)) r (now (words .exit)) (now (speeds .exit)) ⌝ }
+{
+    number_of(study::recall(words, speeds, slot))
+}
+
+// Empties a slot.
+#[no_mangle]
+pub extern "C" fn study_drop(words: &mut [u64], speeds: &[f64], slot: u64) -> u64
+    ensures { λ r. ⌜ Called (dropSlot slot) (now (words .entry)) (now (speeds .entry)) r (now (words .exit)) (now (speeds .entry)) ⌝ }
+{
+    number_of(study::drop_slot(words, speeds, slot))
+}
+
+// Six figures of a case.
+#[no_mangle]
+pub extern "C" fn study_report(words: &[u64], speeds: &[f64], k: u64, figures: &mut [u64]) -> u64
+    ensures { λ r. ⌜ Reported (report k) (now (words .entry)) (now (speeds .entry)) (now (figures .entry)) r (now (figures .exit)) ⌝ }
+{
+    report::put_case(study::report(words, speeds, k), figures)
+}
+
+// Seven figures of a segment of a case.
+#[no_mangle]
+pub extern "C" fn study_report_segment(
+    words: &[u64],
+    speeds: &[f64],
+    k: u64,
+    segment: u64,
+    figures: &mut [u64],
+) -> u64
+    ensures { λ r. ⌜ Reported (reportSegment k segment) (now (words .entry)) (now (speeds .entry)) (now (figures .entry)) r (now (figures .exit)) ⌝ }
+{
+    report::put_segment(study::report_segment(words, speeds, k, segment), figures)
+}
+
+// The run count.
+#[no_mangle]
+pub extern "C" fn study_run_count(words: &[u64], speeds: &[f64], figures: &mut [u64]) -> u64
+    ensures { λ r. ⌜ Reported (reportRuns) (now (words .entry)) (now (speeds .entry)) (now (figures .entry)) r (now (figures .exit)) ⌝ }
+{
+    report::put_runs(study::run_count(words, speeds), figures)
+}
+
+// Writes the study's network as a file from the buffer's first byte on; later bytes stay.
+#[no_mangle]
+pub extern "C" fn study_write(words: &[u64], speeds: &[f64], out: &mut [u8]) -> u64
+    ensures { λ r. ⌜ r ≡ numberOf (writeAnswer (now (words .entry)) (now (speeds .entry)) (now (out .entry))) ⌝ }
+    ensures { λ _. ⌜ now (out .exit) ≡ writtenBytes (now (words .entry)) (now (speeds .entry)) (now (out .entry)) ⌝ }
+{
+    match study::write(words, speeds, out) {
+        study::Written::Refused(number) => number,
+        study::Written::Bytes(_) => 0,
+    }
 }

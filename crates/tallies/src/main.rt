@@ -1,0 +1,64 @@
+// Program "tallies": reads a network of one segment on standard input, starts a study on it with 20,000 mv, 90,000 m/h and a queue of
+// 5,000, steps with arrivals 4,000, then 0, and prints steps, segments, queues, arrivals, exits and time at each. Where a call is
+// refused it prints the number alone.
+fn space(x: u64) {
+    io::print_decimal(1, x);
+    io::write_all(1, b" ");
+}
+
+fn last(x: u64) {
+    io::print_decimal(1, x);
+    io::write_all(1, b"\n");
+}
+
+fn line(f: study::CaseFigures) {
+    space(f.steps);
+    space(f.segments);
+    space(f.queues);
+    space(f.arrivals);
+    space(f.exits);
+    last(f.time);
+}
+
+// The live case's figures.
+fn tally(words: &[u64], speeds: &[f64]) {
+    match study::report(words, speeds, 0) {
+        study::CaseReport::Refused(number) => last(number),
+        study::CaseReport::Figures(f) => line(f),
+    }
+}
+
+// One step with d mv arriving at the segment.
+fn step(words: &mut [u64], speeds: &mut [f64], d: u32) {
+    let arrivals = [d];
+    match study::step(words, speeds, &arrivals) {
+        study::Verdict::Refused(number) => last(number),
+        study::Verdict::Accepted => tally(words, speeds),
+    }
+}
+
+fn list(words: &mut [u64], speeds: &mut [f64]) {
+    io::write_all(1, b"step segments queues arrivals exits time\n");
+    tally(words, speeds);
+    step(words, speeds, 4000);
+    step(words, speeds, 0);
+}
+
+fn run(file: &[u8], words: &mut [u64], speeds: &mut [f64]) {
+    let mvs = [20000];
+    let starts = [90000];
+    let queues = [5000];
+    match study::start(words, speeds, file, &mvs, &starts, &queues) {
+        study::Verdict::Refused(number) => last(number),
+        study::Verdict::Accepted => list(words, speeds),
+    }
+}
+
+// The arrays are long enough for 40 segments, so that a network of several is refused by its lists (13).
+fn main() {
+    let mut buffer = io::large_buffer();
+    let n = io::read_full(0, &mut buffer);
+    let mut words = [0; 7112];
+    let mut speeds = [0.0; 280];
+    run(&buffer[..n], &mut words, &mut speeds);
+}

@@ -7,14 +7,15 @@
 CARGO = cargo --offline
 HARNESS = harness/target/release
 LIBRARY = target/staticlib/libengine.a
+SOURCES := crates.txt $(shell find crates -type f)
 CFLAGS = -std=c11 -Wall -Wextra -Werror -pedantic -O1 -g
 VALGRIND = valgrind --error-exitcode=9 -q
 FILES = 200000
 FUZZ = 10000000
-MEMORY = 60
+MEMORY = 300
 SEED = 20261115
 
-.PHONY: run test bench fuzz library harness oracle-tests c-tests memory
+.PHONY: run test bench fuzz harness oracle-tests c-tests memory
 
 run:
 	rt check demo
@@ -30,12 +31,10 @@ fuzz: harness
 	$(HARNESS)/compare --fuzz $(FUZZ) --seed $(SEED)
 
 # The static library is rebuilt from proved crates only: rt refuses to write it otherwise.
-$(LIBRARY): library
-
-library:
+$(LIBRARY): $(SOURCES)
 	rt staticlib engine
 
-harness: library
+harness: $(LIBRARY)
 	cd harness && $(CARGO) build --release
 
 oracle-tests:

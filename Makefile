@@ -1,4 +1,4 @@
-# make run    the demonstration on a small network
+# make run    the program tallies on its network
 # make test   the gate: every proof and must-fail edit, then the comparison with the second implementation
 # make bench  engine and second implementation side by side
 # make fuzz   a long comparison on generated input
@@ -18,8 +18,8 @@ SEED = 20261115
 .PHONY: run test bench fuzz harness oracle-tests c-tests memory
 
 run:
-	rt check demo
-	target/bin/demo < crates/demo/stdin
+	rt check tallies
+	target/bin/tallies < crates/tallies/stdin
 
 test:
 	bash tools/gate FILES=$(FILES) SEED=$(SEED)

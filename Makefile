@@ -2,14 +2,20 @@
 # make test   the gate: every proof and must-fail edit, then the comparison with the second implementation
 # make bench  engine and second implementation side by side
 # make fuzz   a long comparison on generated input
+# make memory lists of calls under valgrind
 
 CARGO = cargo --offline
 HARNESS = harness/target/release
+LIBRARY = target/staticlib/libengine.a
+SOURCES := crates.txt $(shell find crates -type f)
+CFLAGS = -std=c11 -Wall -Wextra -Werror -pedantic -O1 -g
+VALGRIND = valgrind --error-exitcode=9 -q
 FILES = 200000
 FUZZ = 10000000
+MEMORY = 300
 SEED = 20261115
 
-.PHONY: run test bench fuzz harness oracle-tests
+.PHONY: run test bench fuzz harness oracle-tests c-tests memory
 
 run:
 	rt check tallies
@@ -25,9 +31,24 @@ fuzz: harness
 	$(HARNESS)/compare --fuzz $(FUZZ) --seed $(SEED)
 
 # The static library is rebuilt from proved crates only: rt refuses to write it otherwise.
-harness:
+$(LIBRARY): $(SOURCES)
 	rt staticlib engine
+
+harness: $(LIBRARY)
 	cd harness && $(CARGO) build --release
 
 oracle-tests:
 	cd oracle && $(CARGO) test -q
+
+c-tests: target/c/tallies
+	target/c/tallies
+
+target/c/tallies: tests/c/tallies.c include/engine.h $(LIBRARY)
+	mkdir -p target/c
+	gcc $(CFLAGS) -Iinclude $< $(LIBRARY) -o $@
+
+# In every second list the arrays end where what is lent ends, so that valgrind sees any touch past it.
+memory: harness target/c/tallies
+	@command -v valgrind > /dev/null || { echo 'valgrind is not installed: memory is not checked'; exit 1; }
+	$(VALGRIND) target/c/tallies
+	$(VALGRIND) $(HARNESS)/compare --calls $(MEMORY) --seed $(SEED)

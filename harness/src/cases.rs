@@ -1,10 +1,12 @@
 //! Sound cases of a network: every figure over its whole range, ends and
 //! turning points often.
 
+mod arrivals;
 mod figures;
 mod ramps;
 
 use crate::random::Random;
+pub use arrivals::{arrivals, spoil_arrival, spoil_length};
 pub use figures::sign;
 use oracle::case::{Case, SegmentState, Setting};
 use oracle::file::Network;
@@ -42,19 +44,6 @@ pub fn calm(random: &mut Random, network: &Network) -> Case {
         state.speed = speed.min(f64::from(network.free_speed(segment)));
     }
     case
-}
-
-/// Arrivals in mv, one for each segment.
-pub fn arrivals(random: &mut Random, network: &Network) -> Vec<u32> {
-    let mut arriving = |origin: bool| match random.below(5) {
-        _ if !origin => 0,
-        0 => 0,
-        1 => MOST_ARRIVING as u32,
-        2 => random.between(0, MOST_ARRIVING) as u32,
-        _ => random.between(0, 5_000) as u32,
-    };
-    let origins = network.segments.iter().map(|segment| segment.origin);
-    origins.map(&mut arriving).collect()
 }
 
 /// Any sound case whose mv stay far below the bound.

@@ -1,14 +1,18 @@
 //! The tests. Each makes one input after another and asks both sides.
 
+mod both;
 mod case_step;
 mod changed;
 mod curves;
 mod damaged;
 mod lengths;
 mod lines;
+mod lists;
+mod million;
 mod random_bytes;
 mod refused;
 mod steps;
+mod studies;
 mod tallies;
 mod valid;
 mod write;
@@ -42,6 +46,8 @@ pub enum Inputs {
     Steps(u64),
     /// One for each line asked for.
     Lines,
+    /// So many for each hundred lists of calls asked for.
+    Lists(u64),
     /// One.
     Once,
 }
@@ -101,6 +107,21 @@ pub const TESTS: &[Test] = &[
         name: "tallies",
         inputs: Inputs::Once,
         one: tallies::one,
+    },
+    Test {
+        name: "lists of 60 calls",
+        inputs: Inputs::Lists(100),
+        one: lists::one,
+    },
+    Test {
+        name: "studies of any content",
+        inputs: Inputs::Lists(160),
+        one: studies::one,
+    },
+    Test {
+        name: "a million steps",
+        inputs: Inputs::Once,
+        one: million::one,
     },
 ];
 

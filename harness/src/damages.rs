@@ -18,6 +18,7 @@ use crate::random::Random;
 use crate::single::Single;
 use crate::words::Stored;
 use oracle::file::Network;
+pub use stored::outside;
 
 /// The part of the file that a damage is done to.
 #[derive(Clone, Copy, PartialEq, Eq)]

@@ -3,6 +3,8 @@
 //! A slice is passed as its pointer and its length. Every function answers
 //! with the number that refuses the call, 0 if none.
 
+pub mod study;
+
 extern "C" {
     fn network_check(file: *const u8, length: usize) -> u64;
     fn network_curve_number(file: *const u8, length: usize, curve: u64) -> u64;

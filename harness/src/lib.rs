@@ -1,6 +1,7 @@
 //! The proved engine and the oracle on the same inputs.
 
 pub mod bounds;
+pub mod calls;
 pub mod cases;
 pub mod compare;
 pub mod damages;
@@ -8,6 +9,8 @@ pub mod draft;
 pub mod engine;
 pub mod networks;
 pub mod random;
+pub mod reached;
 pub mod runner;
 pub mod single;
+pub mod study;
 pub mod words;

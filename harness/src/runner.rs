@@ -2,32 +2,52 @@
 
 use crate::compare::{Difference, Inputs, Test, TESTS};
 use crate::random::Random;
+use crate::reached;
 use std::{env, fs};
 
 /// Inputs that a test tries at least, so that every damage has its turn.
 const LEAST_INPUTS: u64 = 500;
 /// Inputs between two progress lines of a fuzz run.
 const PROGRESS: u64 = 1_000_000;
-/// Rounds of a fuzz run for one turn of a test that is asked for by the line
-/// or once.
+/// Rounds of a fuzz run for one turn of a test that is asked for by the line;
+/// one that is asked for once has one turn in all.
 const ROUNDS: usize = 10;
+/// A fuzz run makes that many times fewer lists of calls than their share
+/// says.
+const LIST_WORTH: usize = 20;
 
 /// How much a comparison is to try.
 pub struct Asked {
     pub files: u64,
     pub steps: u64,
     pub lines: u64,
+    /// Lists of calls on a study.
+    pub lists: u64,
 }
 
-/// Every test for what is asked of it. Answers how many tests failed.
+/// Every test for what is asked of it, and whether every refusal of a call on
+/// a study came up. Answers how many tests failed.
 pub fn compare(asked: &Asked, seed: u64) -> usize {
     let mut failed = 0;
     for (number, test) in TESTS.iter().enumerate() {
-        let inputs = asked.of(test.inputs);
-        let outcome = (0..inputs).try_for_each(|index| try_one(number, seed, index));
-        failed += usize::from(!say(test, inputs, outcome));
+        failed += usize::from(!run(number, asked.of(test.inputs), seed));
     }
-    finish(failed)
+    let complete = reached::say();
+    if !complete {
+        println!("FAILED every refusal: some number was never answered");
+    }
+    finish(TESTS.len() + 1, failed + usize::from(!complete))
+}
+
+/// So many inputs of each test of calls on a study, and no other test.
+/// Answers how many tests failed.
+pub fn calls(lists: u64, seed: u64) -> usize {
+    let of_calls = |number: &usize| matches!(TESTS[*number].inputs, Inputs::Lists(_));
+    let tests: Vec<usize> = (0..TESTS.len()).filter(of_calls).collect();
+    let passed = tests.iter().filter(|&&number| run(number, lists, seed));
+    let failed = tests.len() - passed.count();
+    reached::say();
+    finish(tests.len(), failed)
 }
 
 /// The same inputs in turns by their shares, `total` in all; a test that has
@@ -38,7 +58,8 @@ pub fn fuzz(total: u64, seed: u64) -> usize {
     let mut outcomes: [Outcome; TESTS.len()] = [const { Ok(()) }; TESTS.len()];
     for input in 0..total {
         let number = turns[(input % turns.len() as u64) as usize];
-        if outcomes[number].is_ok() {
+        let done = matches!(TESTS[number].inputs, Inputs::Once) && tried[number] > 0;
+        if outcomes[number].is_ok() && !done {
             outcomes[number] = try_one(number, seed, tried[number]);
             tried[number] += 1;
         }
@@ -50,7 +71,8 @@ pub fn fuzz(total: u64, seed: u64) -> usize {
     for ((test, tried), outcome) in TESTS.iter().zip(tried).zip(outcomes) {
         failed += usize::from(!say(test, tried, outcome));
     }
-    finish(failed)
+    reached::say();
+    finish(TESTS.len(), failed)
 }
 
 impl Asked {
@@ -60,6 +82,7 @@ impl Asked {
         match inputs {
             Inputs::Files(share) => part(self.files, share),
             Inputs::Steps(share) => part(self.steps, share),
+            Inputs::Lists(share) => part(self.lists, share),
             Inputs::Lines => self.lines,
             Inputs::Once => 1,
         }
@@ -75,12 +98,19 @@ fn turns() -> Vec<usize> {
             Inputs::Files(share) | Inputs::Steps(share) => {
                 often.extend(vec![number; share as usize])
             }
+            Inputs::Lists(share) => often.extend(vec![number; share as usize / LIST_WORTH]),
             Inputs::Lines | Inputs::Once => seldom.push(number),
         }
     }
     let mut turns = often.repeat(ROUNDS);
     turns.extend(seldom);
     turns
+}
+
+/// One test. Answers whether it passed.
+fn run(number: usize, inputs: u64, seed: u64) -> bool {
+    let outcome = (0..inputs).try_for_each(|index| try_one(number, seed, index));
+    say(&TESTS[number], inputs, outcome)
 }
 
 type Outcome = Result<(), Failure>;
@@ -129,7 +159,7 @@ fn say(test: &Test, inputs: u64, outcome: Outcome) -> bool {
     false
 }
 
-fn finish(failed: usize) -> usize {
-    println!("{} passed, {failed} failed", TESTS.len() - failed);
+fn finish(tests: usize, failed: usize) -> usize {
+    println!("{} passed, {failed} failed", tests - failed);
     failed
 }

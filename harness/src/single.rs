@@ -123,7 +123,7 @@ pub fn word_name(words: &[u64], at: usize) -> String {
 }
 
 /// A speed that nobody reads: any bits, or one that looks right.
-fn odd_speed(random: &mut Random) -> f64 {
+pub fn odd_speed(random: &mut Random) -> f64 {
     match random.once_in(2) {
         true => f64::from_bits(random.number()),
         false => random.between(1_000, 200_000) as f64,

@@ -95,10 +95,7 @@ impl Book {
     fn sign(&mut self, segment: u64, limit: u64, compliance: i64) -> Result<(), u8> {
         let place = rows::judge_segment(&self.network, segment)?;
         rows::judge_sign(limit, compliance)?;
-        let sign = match limit {
-            0 => Sign::Dark,
-            _ => Sign::Shown { limit, compliance },
-        };
+        let sign = Sign::of(limit, compliance);
         self.live.append(&self.network, Item::Sign { place, sign });
         Ok(())
     }

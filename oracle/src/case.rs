@@ -101,6 +101,16 @@ impl Case {
     }
 }
 
+impl Sign {
+    /// The sign of a judged limit (0 is dark) and compliance.
+    pub fn of(limit: u64, compliance: i64) -> Sign {
+        match limit {
+            0 => Sign::Dark,
+            _ => Sign::Shown { limit, compliance },
+        }
+    }
+}
+
 impl SegmentState {
     /// A meter always starts afresh: open and ALINEA begin at R = Q.
     pub fn set_meter(&mut self, segment: &Segment, setting: Setting) {

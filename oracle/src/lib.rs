@@ -12,3 +12,5 @@ pub mod refusal;
 pub mod single;
 pub mod step;
 pub mod stored;
+mod stored_case;
+pub mod study;

@@ -4,7 +4,7 @@
 //! 16 + 201k + j; field f of record i (from 0) is word 1624 + 16i + f, the
 //! fields being L, H, curve, C, J, origin, X, Q. Other words are not read.
 
-use crate::network::{Curve, Network, ENTRIES};
+use crate::network::{Curve, Network, Segment, ENTRIES};
 use crate::ranges::{judge_curve, judge_record, Head, Record};
 use crate::refusal::{ARRAYS, HEAD_FIELD};
 
@@ -25,6 +25,26 @@ pub fn parse(words: &[u64]) -> Result<Network, u8> {
     let records = (0..head.segments as usize).map(|place| stored_record(words, place));
     let segments = records.map(|record| record.segment()).collect();
     Ok(head.network(curves.collect(), segments))
+}
+
+/// Puts the network into its words, of which there are enough; all others up
+/// to word 2559 become 0.
+pub(crate) fn put(network: &Network, words: &mut [u64]) {
+    words[..NETWORK_WORDS].fill(0);
+    words[0] = u64::from(network.step);
+    words[1] = network.segments.len() as u64;
+    words[2] = network.curves.len() as u64;
+    words[3] = u64::from(network.relaxation);
+    words[4] = u64::from(network.anticipation);
+    words[5] = u64::from(network.kappa);
+    words[6] = u64::from(network.merging);
+    let entries = network.curves.iter().flatten();
+    for (word, &entry) in words[CURVES_AT..].iter_mut().zip(entries) {
+        *word = u64::from(entry);
+    }
+    for (place, segment) in network.segments.iter().enumerate() {
+        put_record(segment, &mut words[RECORDS_AT + RECORD_WORDS * place..]);
+    }
 }
 
 /// Rows 4, 6, 7 and 8 on the stored numbers.
@@ -72,6 +92,17 @@ fn stored_record(words: &[u64], place: usize) -> Record {
         exit_share: fields[6],
         most_released: fields[7],
     }
+}
+
+fn put_record(segment: &Segment, fields: &mut [u64]) {
+    fields[0] = u64::from(segment.length);
+    fields[1] = u64::from(segment.lanes);
+    fields[2] = u64::from(segment.curve);
+    fields[3] = u64::from(segment.critical);
+    fields[4] = u64::from(segment.jam);
+    fields[5] = u64::from(segment.origin);
+    fields[6] = u64::from(segment.exit_share);
+    fields[7] = u64::from(segment.most_released);
 }
 
 /// A judged curve: every entry fits 32 bits.

@@ -140,7 +140,7 @@ fn rise(stored: &mut Stored, curve: usize, entry: usize, random: &mut Random) {
 
 /// A number outside `low..=high`: beside an end, any, or one that agrees with
 /// `right` in its lowest 8, 16 or 32 bits.
-pub(super) fn outside(right: u64, low: u64, high: u64, random: &mut Random) -> u64 {
+pub fn outside(right: u64, low: u64, high: u64, random: &mut Random) -> u64 {
     loop {
         let number = match random.below(7) {
             0 => low.saturating_sub(1),

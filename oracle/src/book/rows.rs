@@ -1,6 +1,6 @@
 //! The rows of the table for calls on a study, in their order.
 
-use super::{Lengths, Line, Start, SLOTS};
+use super::{Lengths, Start, SLOTS};
 use crate::case::{Alinea, Setting};
 use crate::network::{Network, Segment};
 use crate::refusal::{
@@ -13,9 +13,10 @@ const MOST_WAITING: u64 = 1_000_000;
 /// Most steps on a line.
 pub const LINE_STEPS: u64 = 20_000;
 /// Most accepted steps since Start.
-const RUNS: u64 = 1_000_000;
+pub const RUNS: u64 = 1_000_000;
 
-type Slots = [Option<Line>; SLOTS];
+/// What is held in each slot, nothing where it is empty.
+type Slots<Held> = [Option<Held>; SLOTS];
 
 /// Rows 11, 13 and 14.
 pub fn judge_start(network: &Network, lengths: Lengths, start: &Start) -> Result<(), u8> {
@@ -72,17 +73,17 @@ pub fn judge_meter(network: &Network, place: usize, setting: Setting) -> Result<
 }
 
 /// Rows 21 and 22. Answers the slot's place, from 0.
-pub fn judge_hold(slots: &Slots, slot: u64) -> Result<usize, u8> {
+pub fn judge_hold<Held>(slots: &Slots<Held>, slot: u64) -> Result<usize, u8> {
     let place = judge_slot(slot)?;
     refuse_if(slots[place].is_some(), FILLED)?;
     Ok(place)
 }
 
-/// Rows 21 and 23. Answers the slot's place, from 0, and its line.
-pub fn judge_filled(slots: &Slots, slot: u64) -> Result<(usize, &Line), u8> {
+/// Rows 21 and 23. Answers the slot's place, from 0, and what it holds.
+pub fn judge_filled<Held>(slots: &Slots<Held>, slot: u64) -> Result<(usize, &Held), u8> {
     let place = judge_slot(slot)?;
-    let line = slots[place].as_ref().ok_or(EMPTY)?;
-    Ok((place, line))
+    let held = slots[place].as_ref().ok_or(EMPTY)?;
+    Ok((place, held))
 }
 
 fn judge_slot(slot: u64) -> Result<usize, u8> {

@@ -164,15 +164,23 @@ fn kept_cases_agree_with_replayed_ones() {
 }
 
 /// The next number of a linear congruential generator, its upper half.
-fn random(state: &mut u64) -> u64 {
+pub fn random(state: &mut u64) -> u64 {
     *state = state
         .wrapping_mul(6_364_136_223_846_793_005)
         .wrapping_add(1_442_695_040_888_963_407);
     *state >> 32
 }
 
-/// Mostly steps; some calls are refused.
 fn random_call(book: &mut Book, number: u64) {
+    let before = outline(book);
+    let refused = with_call(number, |call| book.call(call).is_err());
+    if refused {
+        assert_eq!(outline(book), before);
+    }
+}
+
+/// Hands over the call of that number. Mostly steps; some are refused.
+pub fn with_call<Result>(number: u64, take: impl FnOnce(&Call) -> Result) -> Result {
     let (kind, rest) = (number % 16, number / 16);
     let slot = rest % 8;
     let arrivals = [(rest % 20_000) as u32, (rest % 7_001) as u32, 0];
@@ -181,18 +189,14 @@ fn random_call(book: &mut Book, number: u64) {
         1 => Setting::Fixed(rest % 6_000),
         _ => Setting::Alinea(ALINEA),
     };
-    let call = match kind {
+    take(&match kind {
         0 => Call::Hold { slot },
         1 => Call::Recall { slot },
         2 => Call::Drop { slot },
         3 => sign(rest % 5, rest % 220, (rest % 1_200) as i64 - 600),
         4 => meter(rest % 5, setting),
         _ => step(&arrivals),
-    };
-    let before = outline(book);
-    if book.call(&call).is_err() {
-        assert_eq!(outline(book), before);
-    }
+    })
 }
 
 /// Figures that no refused call may change.

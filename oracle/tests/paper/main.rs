@@ -2,9 +2,11 @@
 
 mod arrays;
 mod file;
+mod held;
 mod lines;
 mod networks;
 mod refusals;
 mod single;
+mod sound;
 mod step;
 mod study;

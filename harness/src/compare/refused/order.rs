@@ -1,14 +1,13 @@
 //! Rows 12, 13, 15 and 16 alone and together: the first is the answer.
 
 use super::{any, apply, NOT_SOUND};
-use crate::cases::{arrivals, MOST_ARRIVING, MOST_STEPS};
+use crate::cases::{arrivals, spoil_arrival, spoil_length, MOST_STEPS};
 use crate::compare::case_step::{expect_number, Lent};
 use crate::compare::Difference;
 use crate::damages::{any_of, CASE};
 use crate::networks::Shape;
 use crate::random::Random;
 use crate::single::Single;
-use oracle::file::Network;
 
 /// The rows in their order.
 const ROWS: [u64; 4] = [NOT_SOUND, 13, 15, 16];
@@ -52,28 +51,4 @@ fn spoil_arrays(random: &mut Random, single: &mut Single) {
         1 => single.stored.words.truncate(single.total_word(7)),
         _ => apply(any_of(&CASE, NOT_SOUND, None, random), single, random),
     }
-}
-
-/// An arrival that is too large, or that has no origin.
-fn spoil_arrival(random: &mut Random, network: &Network, arrivals: &mut [u32]) {
-    let place = random.edge(0, arrivals.len() as u64 - 1) as usize;
-    let least = match network.segments[place].origin {
-        true => MOST_ARRIVING + 1,
-        false => 1,
-    };
-    arrivals[place] = random.edge(least, u64::from(u32::MAX)) as u32;
-}
-
-/// One too few, one too many, none, twice as many, or any other number.
-fn spoil_length(random: &mut Random, arrivals: &mut Vec<u32>) {
-    let n = arrivals.len();
-    let length = match random.below(5) {
-        0 => n - 1,
-        1 => n + 1,
-        2 => 0,
-        3 => 2 * n,
-        _ => n + random.between(1, 400) as usize,
-    };
-    let filler = random.one_of(&[0, 1, u64::from(u32::MAX)]);
-    arrivals.resize(length, filler as u32);
 }

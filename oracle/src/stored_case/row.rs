@@ -33,12 +33,37 @@ pub fn state(network: &Network, place: usize, row: &[u64], speed: f64) -> Option
 }
 
 /// Puts what a step changes into the row.
-pub fn put(state: &SegmentState, row: &mut [u64]) {
+pub fn put_step(state: &SegmentState, row: &mut [u64]) {
     row[0] = state.count;
     row[1] = state.queue;
     row[5] = state.rate;
     row[10] = state.last_outflow;
     row[11] = state.last_release;
+}
+
+/// A dark sign is two words of 0.
+pub fn put_sign(sign: Sign, row: &mut [u64]) {
+    [row[2], row[3]] = match sign {
+        Sign::Dark => [0, 0],
+        Sign::Shown { limit, compliance } => [limit, (compliance + 500) as u64],
+    };
+}
+
+/// Setting and rate. Words that the setting does not use are 0.
+pub fn put_setting(state: &SegmentState, row: &mut [u64]) {
+    row[4..10].fill(0);
+    row[5] = state.rate;
+    match state.setting {
+        Setting::Open => row[4] = OPEN,
+        Setting::Fixed(_) => row[4] = FIXED,
+        Setting::Alinea(alinea) => {
+            row[4] = ALINEA;
+            row[6] = alinea.target;
+            row[7] = alinea.gain;
+            row[8] = alinea.least;
+            row[9] = alinea.interval;
+        }
+    }
 }
 
 fn figures_sound(state: &SegmentState) -> bool {

@@ -1,0 +1,108 @@
+//! The same calls asked of the oracle: of its book, or on arrays.
+
+use super::{Answer, Call, Start};
+use oracle::book::{self, Book, CaseReport, Lengths, SegmentReport};
+use oracle::{file, study};
+
+/// A call on arrays that hold a study, or anything.
+pub fn ask_arrays(words: &mut [u64], speeds: &mut [f64], call: &Call) -> Answer {
+    let mut answer = Answer::lent(call);
+    let result = match call {
+        Call::Sound => match study::number(words, speeds) {
+            0 => Ok(book::Answer::Done),
+            number => Err(number),
+        },
+        Call::Write { room } => study::write(words, speeds, *room).map(|file| {
+            answer.give_bytes(&file);
+            book::Answer::Done
+        }),
+        _ => study::call(words, speeds, &oracle_call(call)),
+    };
+    complete(answer, result)
+}
+
+/// The same call in the book.
+pub fn ask_book(book: &mut Book, call: &Call) -> Answer {
+    let mut answer = Answer::lent(call);
+    let result = match call {
+        Call::Sound => Ok(book::Answer::Done),
+        Call::Write { .. } => {
+            answer.give_bytes(&file::write(book.network()));
+            Ok(book::Answer::Done)
+        }
+        _ => book.call(&oracle_call(call)),
+    };
+    complete(answer, result)
+}
+
+/// The book that an accepted Start begins, or the number that refuses it.
+pub fn begin_book(lengths: Lengths, start: &Start) -> Result<Book, u8> {
+    Book::start(lengths, &oracle_start(start))
+}
+
+fn complete(mut answer: Answer, result: Result<book::Answer, u8>) -> Answer {
+    match result {
+        Ok(book::Answer::Done) => {}
+        Ok(book::Answer::Case(report)) => answer.give(&case_figures(&report)),
+        Ok(book::Answer::Segment(report)) => answer.give(&segment_figures(&report)),
+        Ok(book::Answer::Runs(runs)) => answer.give(&[runs]),
+        Err(number) => answer.number = u64::from(number),
+    }
+    answer
+}
+
+/// The call in the oracle's words. Sound and Write are none of the book's.
+fn oracle_call(call: &Call) -> book::Call<'_> {
+    match *call {
+        Call::Start(ref start) => book::Call::Start(oracle_start(start)),
+        Call::Sign {
+            segment,
+            limit,
+            compliance,
+        } => book::Call::Sign {
+            segment,
+            limit,
+            compliance,
+        },
+        Call::Meter { segment, setting } => book::Call::Meter { segment, setting },
+        Call::Step(ref arrivals) => book::Call::Step { arrivals },
+        Call::Hold(slot) => book::Call::Hold { slot },
+        Call::Recall(slot) => book::Call::Recall { slot },
+        Call::Drop(slot) => book::Call::Drop { slot },
+        Call::Report { case, .. } => book::Call::ReportCase { case },
+        Call::ReportSegment { case, segment, .. } => book::Call::ReportSegment { case, segment },
+        Call::RunCount { .. } | Call::Sound | Call::Write { .. } => book::Call::ReportRuns,
+    }
+}
+
+fn oracle_start(start: &Start) -> book::Start<'_> {
+    book::Start {
+        file: &start.file,
+        counts: &start.counts,
+        speeds: &start.speeds,
+        queues: &start.queues,
+    }
+}
+
+fn case_figures(report: &CaseReport) -> [u64; 6] {
+    [
+        report.steps,
+        report.in_segments,
+        report.in_queues,
+        report.arrivals,
+        report.exits,
+        report.time,
+    ]
+}
+
+fn segment_figures(report: &SegmentReport) -> [u64; 7] {
+    [
+        report.count,
+        report.whole_speed,
+        report.speed_bits,
+        report.queue,
+        report.last_outflow,
+        report.last_release,
+        report.rate,
+    ]
+}

@@ -1,0 +1,58 @@
+//! The end of a list: network, run count, marks, every case and every
+//! segment, as the arrays hold them and as reports give them.
+
+use super::List;
+use crate::calls::{Call, Function};
+use crate::compare::Difference;
+use crate::random::Random;
+use oracle::book::{Book, SLOTS};
+use oracle::study::{self, Study};
+
+impl List {
+    /// The study is the book's. Where asked for, every report is made too.
+    pub(super) fn end(&mut self, random: &mut Random, reports: bool) -> Result<(), Difference> {
+        let Some(book) = &self.book else {
+            return Err(self.both.differs("no Start was accepted"));
+        };
+        let (words, speeds) = self.both.lent();
+        if study::read(words, speeds) != Ok(of_book(book)) {
+            return Err(self.both.differs("the study is not the book's"));
+        }
+        self.take(Call::Sound)?;
+        if reports {
+            self.reports()?;
+            let right = !random.once_in(2);
+            let write = self.scene().call(random, Function::Write, right);
+            self.take(write)?;
+        }
+        Ok(())
+    }
+
+    fn reports(&mut self) -> Result<(), Difference> {
+        let segments = self.scene().network.segments.len() as u64;
+        self.take(Call::RunCount { room: 1 })?;
+        for case in 0..=SLOTS as u64 {
+            self.take(Call::Report { case, room: 6 })?;
+            for segment in 1..=segments {
+                let room = 7;
+                self.take(Call::ReportSegment {
+                    case,
+                    segment,
+                    room,
+                })?;
+            }
+        }
+        Ok(())
+    }
+}
+
+/// What the arrays should hold by the book.
+fn of_book(book: &Book) -> Study {
+    let slot = |slot| book.slot(slot + 1).map(|line| line.case().clone());
+    Study {
+        network: book.network().clone(),
+        runs: book.runs(),
+        live: book.live().case().clone(),
+        slots: std::array::from_fn::<_, SLOTS, _>(slot),
+    }
+}

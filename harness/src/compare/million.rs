@@ -1,0 +1,86 @@
+//! Row 16 through calls alone: lines of 20,000 steps, each begun by recalling
+//! the start case, until 1,000,000 steps have been accepted since Start.
+
+use super::Difference;
+use crate::calls::{ask_book, begin_book, good_start, Answer, Call};
+use crate::cases::MOST_STEPS;
+use crate::engine;
+use crate::networks::calm_road;
+use crate::random::Random;
+use crate::reached;
+use crate::study::{speeds_for, words_for, MOST_RUNS};
+use oracle::book::{Book, Lengths};
+use oracle::study;
+
+/// A study of one segment, and its book.
+struct Long {
+    words: Vec<u64>,
+    speeds: Vec<f64>,
+    book: Book,
+}
+
+pub fn one(random: &mut Random, _: u64) -> Result<(), Difference> {
+    let network = calm_road(random, 1);
+    let start = good_start(random, &network);
+    let (words, speeds) = (words_for(1), speeds_for(1));
+    let Ok(book) = begin_book(Lengths { words, speeds }, &start) else {
+        return Err(differs("Start refused".into()));
+    };
+    let mut long = Long {
+        words: vec![0; words],
+        speeds: vec![0.0; speeds],
+        book,
+    };
+    let answer = engine::study::ask(&mut long.words, &mut long.speeds, &Call::Start(start));
+    expect(&answer, 0)?;
+    long.take(Call::Hold(1), 0)?;
+    for _ in 0..MOST_RUNS / MOST_STEPS {
+        for _ in 0..MOST_STEPS {
+            long.take(step(random), 0)?;
+        }
+        long.take(step(random), 16)?;
+        long.figures()?;
+        long.take(Call::Recall(1), 0)?;
+    }
+    long.take(step(random), 16)?;
+    long.take(Call::Step([u32::MAX].into()), 15)?;
+    long.figures()
+}
+
+fn step(random: &mut Random) -> Call {
+    Call::Step([random.below(2_000) as u32].into())
+}
+
+impl Long {
+    /// Engine and book answer this number.
+    fn take(&mut self, call: Call, number: u64) -> Result<(), Difference> {
+        let engine = engine::study::ask(&mut self.words, &mut self.speeds, &call);
+        expect(&engine, number)?;
+        expect(&ask_book(&mut self.book, &call), number)?;
+        reached::note(&call, number);
+        Ok(())
+    }
+
+    /// The live case and the run count are the book's.
+    fn figures(&self) -> Result<(), Difference> {
+        let book = &self.book;
+        match study::read(&self.words, &self.speeds) {
+            Ok(study) if study.live == *book.live().case() && study.runs == book.runs() => Ok(()),
+            study => Err(differs(format!("{study:?} after {} steps", book.runs()))),
+        }
+    }
+}
+
+fn expect(answer: &Answer, number: u64) -> Result<(), Difference> {
+    match answer.number == number {
+        true => Ok(()),
+        false => Err(differs(format!("expected {number}, {}", answer.number))),
+    }
+}
+
+fn differs(what: String) -> Difference {
+    Difference {
+        what,
+        input: Vec::new(),
+    }
+}

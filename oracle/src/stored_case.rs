@@ -1,0 +1,113 @@
+//! One case as it is stored in lent words and speeds.
+//!
+//! Each segment has a row of sixteen words; after the rows come the case's
+//! totals: steps, arrivals, exits, time and four free words. Speed i (from 0)
+//! is v of segment i. Every function is handed exactly the case's own words
+//! and speeds.
+
+mod row;
+
+use crate::book::rows::LINE_STEPS;
+use crate::case::{Case, SegmentState};
+use crate::network::Network;
+
+const ROW_WORDS: usize = 16;
+const TOTALS_WORDS: usize = 8;
+/// Most mv that any figure of a sound case says, and most mv in all.
+const MOST_MV: u64 = 1_000_000_000_000;
+/// Most time spent of a sound case, in mv·s.
+const MOST_TIME: u64 = 1_000_000_000_000_000_000;
+
+/// Words of a case of n segments.
+pub(crate) fn case_words(n: usize) -> usize {
+    ROW_WORDS * n + TOTALS_WORDS
+}
+
+/// The case, or nothing where it is not sound.
+pub(crate) fn read(network: &Network, words: &[u64], speeds: &[f64]) -> Option<Case> {
+    let states: Option<Vec<SegmentState>> = states(network, words, speeds).collect();
+    let [steps, arrivals, exits, time] = totals(words);
+    let case = Case {
+        segments: states?,
+        steps,
+        arrivals,
+        exits,
+        time,
+    };
+    let present = case.in_segments() + case.in_queues();
+    totals_sound(totals(words), present).then_some(case)
+}
+
+/// Whether the case is sound. Nothing of it is kept.
+pub(crate) fn sound(network: &Network, words: &[u64], speeds: &[f64]) -> bool {
+    let mut states = states(network, words, speeds);
+    let present = states.try_fold(0, |present, state| {
+        let SegmentState { count, queue, .. } = state?;
+        Some(present + count + queue)
+    });
+    present.is_some_and(|present| totals_sound(totals(words), present))
+}
+
+/// Puts what a step changes: counts, queues, rates, last flows, speeds and
+/// totals.
+pub(crate) fn put_step(case: &Case, words: &mut [u64], speeds: &mut [f64]) {
+    for (place, state) in case.segments.iter().enumerate() {
+        row::put_step(state, &mut words[ROW_WORDS * place..]);
+        speeds[place] = state.speed;
+    }
+    put_totals(case, words);
+}
+
+/// Puts the whole case; its free words become 0.
+pub(crate) fn put(case: &Case, words: &mut [u64], speeds: &mut [f64]) {
+    words.fill(0);
+    for place in 0..case.segments.len() {
+        put_sign(case, place, words);
+        put_setting(case, place, words);
+    }
+    put_step(case, words, speeds);
+}
+
+/// Puts the sign of a segment (from 0).
+pub(crate) fn put_sign(case: &Case, place: usize, words: &mut [u64]) {
+    row::put_sign(case.segments[place].sign, &mut words[ROW_WORDS * place..]);
+}
+
+/// Puts the setting and the rate of a segment (from 0).
+pub(crate) fn put_setting(case: &Case, place: usize, words: &mut [u64]) {
+    row::put_setting(&case.segments[place], &mut words[ROW_WORDS * place..]);
+}
+
+/// The state of each segment, or nothing where it is not sound.
+fn states<'a>(
+    network: &'a Network,
+    words: &'a [u64],
+    speeds: &'a [f64],
+) -> impl Iterator<Item = Option<SegmentState>> + 'a {
+    let rows = words.chunks_exact(ROW_WORDS).zip(speeds);
+    let places = 0..network.segments.len();
+    places
+        .zip(rows)
+        .map(|(place, (row, &speed))| row::state(network, place, row, speed))
+}
+
+fn totals(words: &[u64]) -> [u64; 4] {
+    let at = words.len() - TOTALS_WORDS;
+    std::array::from_fn(|total| words[at + total])
+}
+
+fn put_totals(case: &Case, words: &mut [u64]) {
+    let totals = [case.steps, case.arrivals, case.exits, case.time];
+    let at = words.len() - TOTALS_WORDS;
+    words[at..at + totals.len()].copy_from_slice(&totals);
+}
+
+/// Bounds on the totals and on the mv in all. Each count and queue is within
+/// its own bound already, so that their sum fits 64 bits.
+fn totals_sound([steps, arrivals, exits, time]: [u64; 4], present: u64) -> bool {
+    present <= MOST_MV
+        && arrivals <= MOST_MV
+        && exits <= MOST_MV
+        && time <= MOST_TIME
+        && steps <= LINE_STEPS
+}

@@ -1,0 +1,173 @@
+//! Calls on a study in lent arrays: what they store, beside the book.
+
+use crate::arrays::FREE;
+use crate::lines::{random, with_call};
+use crate::networks;
+use crate::study::{book, step, COUNTS, QUEUES, ROOM, SPEEDS};
+use oracle::book::{Answer, Book, Call, CaseReport, Start, SLOTS};
+use oracle::file;
+use oracle::network::Network;
+use oracle::study::{self, Study};
+
+/// Words and speeds past those that three segments need.
+const PAST: usize = 5;
+
+pub struct Lent {
+    pub words: Vec<u64>,
+    pub speeds: Vec<f64>,
+}
+
+impl Lent {
+    /// Arrays that hold nothing yet.
+    pub fn free() -> Lent {
+        Lent {
+            words: vec![FREE; ROOM.words + PAST],
+            speeds: vec![f64::from_bits(FREE); ROOM.speeds + PAST],
+        }
+    }
+
+    /// The study that the tests of the book begin with.
+    pub fn started() -> Lent {
+        let mut lent = Lent::free();
+        let lists: [&[u64]; 3] = [&COUNTS, &SPEEDS, &QUEUES];
+        assert_eq!(lent.start(&networks::three_segments(), lists), 0);
+        lent
+    }
+
+    pub fn start(&mut self, network: &Network, [counts, speeds, queues]: [&[u64]; 3]) -> u8 {
+        let file = file::write(network);
+        self.number(&Call::Start(Start {
+            file: &file,
+            counts,
+            speeds,
+            queues,
+        }))
+    }
+
+    pub fn call(&mut self, call: &Call) -> Result<Answer, u8> {
+        study::call(&mut self.words, &mut self.speeds, call)
+    }
+
+    pub fn number(&mut self, call: &Call) -> u8 {
+        self.call(call).err().unwrap_or(0)
+    }
+
+    pub fn bits(&self) -> (Vec<u64>, Vec<u64>) {
+        let speeds = self.speeds.iter().map(|speed| speed.to_bits());
+        (self.words.clone(), speeds.collect())
+    }
+}
+
+/// What the arrays should hold by the book.
+fn of_book(book: &Book) -> Study {
+    let slot = |slot| book.slot(slot + 1).map(|line| line.case().clone());
+    Study {
+        network: book.network().clone(),
+        runs: book.runs(),
+        live: book.live().case().clone(),
+        slots: std::array::from_fn::<_, SLOTS, _>(slot),
+    }
+}
+
+/// Random calls: every answer is the book's, a refused call changes nothing,
+/// and the arrays hold what the book says.
+#[test]
+fn arrays_follow_the_book() {
+    let (mut book, mut lent) = (book(), Lent::started());
+    let mut state = 7_u64;
+    for _ in 0..3_000 {
+        let before = lent.bits();
+        let number = random(&mut state);
+        let answer = with_call(number, |call| {
+            let answer = lent.call(call);
+            assert_eq!(answer, book.call(call), "{call:?}");
+            answer
+        });
+        assert!(answer.is_ok() || lent.bits() == before);
+        assert_eq!(study::read(&lent.words, &lent.speeds), Ok(of_book(&book)));
+        for case in 0..=7 {
+            let report = Call::ReportCase { case };
+            assert_eq!(lent.call(&report), book.call(&report));
+        }
+    }
+    assert!(book.runs() > 1_000);
+    let past = &lent.words[ROOM.words..];
+    assert!(past.iter().all(|&word| word == FREE));
+    let past = &lent.speeds[ROOM.speeds..];
+    assert!(past.iter().all(|speed| speed.to_bits() == FREE));
+}
+
+/// Every word that Start stores, by hand; a slot's words stay.
+#[test]
+fn start_word_by_word() {
+    let mut lent = Lent::free();
+    let lists: [&[u64]; 3] = [&[20_000], &[90_000], &[5_000]];
+    assert_eq!(lent.start(&networks::tallies(), lists), 0);
+    let mut expected = vec![0; 2576 + 24];
+    expected[..6].copy_from_slice(&[10, 1, 1, 20, 0, 40]);
+    expected[16..217].fill(100_000);
+    expected[1624..1632].copy_from_slice(&[500, 2, 0, 30, 180, 1, 0, 6_000]);
+    expected[2576..2582].copy_from_slice(&[20_000, 5_000, 0, 0, 0, 6_000]);
+    expected.resize(lent.words.len(), FREE);
+    assert_eq!(lent.words, expected);
+    assert_eq!(lent.speeds[0], 90_000.0);
+    assert_eq!(lent.speeds[1].to_bits(), FREE);
+}
+
+/// The listing through reports.
+#[test]
+fn the_listing() {
+    let mut lent = Lent::free();
+    let lists: [&[u64]; 3] = [&[20_000], &[90_000], &[5_000]];
+    assert_eq!(lent.start(&networks::tallies(), lists), 0);
+    for (arrivals, listed) in [
+        ([4_000], [1, 16_000, 3_000, 4_000, 10_000, 250_000]),
+        ([0], [2, 10_556, 0, 4_000, 18_444, 440_000]),
+    ] {
+        assert_eq!(lent.number(&step(&arrivals)), 0);
+        let [steps, in_segments, in_queues, arrivals, exits, time] = listed;
+        let expected = CaseReport {
+            steps,
+            in_segments,
+            in_queues,
+            arrivals,
+            exits,
+            time,
+        };
+        let report = lent.call(&Call::ReportCase { case: 0 });
+        assert_eq!(report, Ok(Answer::Case(expected)));
+    }
+    assert_eq!(lent.call(&Call::ReportRuns), Ok(Answer::Runs(2)));
+}
+
+/// Hold copies every word and speed of the live case and changes one mark,
+/// Drop changes the mark alone.
+#[test]
+fn hold_and_drop_word_by_word() {
+    let mut lent = Lent::started();
+    let case_words = 16 * 3 + 8;
+    lent.words[2576 + 12] = 77;
+    let mut expected = lent.bits();
+    assert_eq!(lent.number(&Call::Hold { slot: 4 }), 0);
+    expected.0[2564] = 1;
+    expected
+        .0
+        .copy_within(2576..2576 + case_words, 2576 + 4 * case_words);
+    expected.1.copy_within(..3, 4 * 3);
+    assert_eq!(lent.bits(), expected);
+    assert_eq!(lent.number(&Call::Drop { slot: 4 }), 0);
+    expected.0[2564] = 0;
+    assert_eq!(lent.bits(), expected);
+}
+
+/// 12 before 24; the file that Start read comes back.
+#[test]
+fn written_networks() {
+    let mut lent = Lent::started();
+    let file = file::write(&networks::three_segments());
+    let written = |lent: &Lent, room| study::write(&lent.words, &lent.speeds, room);
+    assert_eq!(written(&lent, file.len()), Ok(file.clone()));
+    assert_eq!(written(&lent, file.len() - 1), Err(24));
+    lent.words[2560] = 1_000_001;
+    assert_eq!(written(&lent, 0), Err(12));
+}

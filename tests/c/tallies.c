@@ -1,0 +1,227 @@
+/* The listing of document 01 through the C interface: its network file is built in memory, a study is started on it, and
+ * both steps are made. Then come the slots, refusals and Write. Every difference is a line on standard error; the exit
+ * status is 0 where there is none. The arrays are exactly as long as one segment needs. */
+#include "engine.h"
+
+#include <inttypes.h>
+#include <stdio.h>
+#include <stdlib.h>
+#include <string.h>
+
+#define FILE_BYTES (16 + 804 + 16)
+#define WORDS (2576 + 7 * (16 + 8))
+#define SPEEDS 7
+
+typedef struct {
+    uint64_t *words;
+    double *speeds;
+    uint8_t *file;
+} Study;
+
+static int differences = 0;
+
+static void expect(const char *what, uint64_t found, uint64_t expected)
+{
+    if (found == expected)
+        return;
+    fprintf(stderr, "%s: expected %" PRIu64 ", found %" PRIu64 "\n", what, expected, found);
+    differences++;
+}
+
+static void *lend(size_t bytes)
+{
+    void *room = malloc(bytes);
+    if (room == NULL)
+        exit(2);
+    memset(room, 0xa5, bytes);
+    return room;
+}
+
+static void put32(uint8_t *bytes, uint32_t number)
+{
+    for (int i = 0; i < 4; i++)
+        bytes[i] = (uint8_t)(number >> (24 - 8 * i));
+}
+
+/* T 10, tau 20, nu 0, kappa 40, delta 0, one curve all 100,000; one segment, L 500, H 2, C 30, J 180, X 0, Q 6,000. */
+static void build_file(uint8_t *file)
+{
+    static const uint8_t head[16] = {'F', 'W', 'N', 0, 1, 10, 1, 1, 20, 0, 40};
+    static const uint8_t record[16] = {500 >> 8, 500 & 255, 2, 0, 30, 180, 1};
+    memcpy(file, head, 16);
+    for (int entry = 0; entry < 201; entry++)
+        put32(file + 16 + 4 * entry, 100000);
+    memcpy(file + 16 + 804, record, 16);
+    put32(file + 16 + 804 + 10, 6000);
+}
+
+static uint64_t start(Study study, size_t words_len, uint32_t speed)
+{
+    const uint32_t mvs[1] = {20000}, starts[1] = {speed}, queues[1] = {5000};
+    return study_start(study.words, words_len, study.speeds, SPEEDS, study.file, FILE_BYTES, mvs, 1, starts, 1, queues, 1);
+}
+
+static uint64_t step(Study study, uint32_t arrival)
+{
+    return study_step(study.words, WORDS, study.speeds, SPEEDS, &arrival, 1);
+}
+
+static uint64_t hold(Study study, uint64_t slot)
+{
+    return study_hold(study.words, WORDS, study.speeds, SPEEDS, slot);
+}
+
+static uint64_t recall(Study study, uint64_t slot)
+{
+    return study_recall(study.words, WORDS, study.speeds, SPEEDS, slot);
+}
+
+static uint64_t drop(Study study, uint64_t slot)
+{
+    return study_drop(study.words, WORDS, study.speeds, SPEEDS, slot);
+}
+
+/* step, segments, queues, arrivals, exits, time: a line of the listing */
+static void expect_case(Study study, uint64_t number, const uint64_t listed[6])
+{
+    static const char *const names[6] = {"steps", "segments", "queues", "arrivals", "exits", "time"};
+    uint64_t figures[7] = {0, 0, 0, 0, 0, 0, 77};
+    uint64_t refused = study_report(study.words, WORDS, study.speeds, SPEEDS, number, figures, 7);
+    expect("report", refused, 0);
+    for (int i = 0; i < 6; i++)
+        expect(names[i], figures[i], listed[i]);
+    expect("word after the report", figures[6], 77);
+}
+
+/* v, last outflow and last release of the live case's segment */
+static void expect_segment(Study study, double speed, uint64_t outflow, uint64_t release)
+{
+    uint64_t figures[7], bits;
+    uint64_t refused = study_report_segment(study.words, WORDS, study.speeds, SPEEDS, 0, 1, figures, 7);
+    memcpy(&bits, &speed, sizeof bits);
+    expect("segment report", refused, 0);
+    expect("whole speed", figures[1], (uint64_t)speed);
+    expect("bits of v", figures[2], bits);
+    expect("last outflow", figures[4], outflow);
+    expect("last release", figures[5], release);
+    expect("R", figures[6], 6000);
+}
+
+static void expect_runs(Study study, uint64_t runs)
+{
+    uint64_t figure = 0;
+    expect("run count refused", study_run_count(study.words, WORDS, study.speeds, SPEEDS, &figure, 1), 0);
+    expect("run count", figure, runs);
+}
+
+static const uint64_t listing[3][6] = {
+    {0, 20000, 5000, 0, 0, 0},
+    {1, 16000, 3000, 4000, 10000, 250000},
+    {2, 10556, 0, 4000, 18444, 440000},
+};
+
+static void tallies(Study study)
+{
+    expect("start", start(study, WORDS, 90000), 0);
+    expect("sound", study_sound(study.words, WORDS, study.speeds, SPEEDS), 0);
+    expect_case(study, 0, listing[0]);
+    expect("step 1", step(study, 4000), 0);
+    expect_case(study, 0, listing[1]);
+    expect_segment(study, 95000.0, 10000, 6000);
+    expect("hold", hold(study, 6), 0);
+    expect("step 2", step(study, 0), 0);
+    expect_case(study, 0, listing[2]);
+    expect_segment(study, 97500.0, 8444, 3000);
+    expect_runs(study, 2);
+}
+
+/* The case held after step 1 stays, comes back and goes on as before; the run count is never lowered. */
+static void slots(Study study)
+{
+    expect_case(study, 6, listing[1]);
+    expect("hold into a filled slot", hold(study, 6), 22);
+    expect("recall", recall(study, 6), 0);
+    expect_case(study, 0, listing[1]);
+    expect("step 2 again", step(study, 0), 0);
+    expect_case(study, 0, listing[2]);
+    expect_case(study, 6, listing[1]);
+    expect_runs(study, 3);
+    expect("drop", drop(study, 6), 0);
+    expect("recall of an empty slot", recall(study, 6), 23);
+    expect("drop of an empty slot", drop(study, 6), 23);
+    expect("hold again", hold(study, 6), 0);
+    expect_case(study, 6, listing[2]);
+}
+
+/* Each number by one call; none of them changes a word or a speed. */
+static void refusals(Study study)
+{
+    uint64_t *words = study.words, figures[7];
+    double *speeds = study.speeds;
+    const uint32_t two[2] = {0, 0};
+    uint64_t *words_before = lend(WORDS * sizeof *words);
+    double *speeds_before = lend(SPEEDS * sizeof *speeds);
+    memcpy(words_before, words, WORDS * sizeof *words);
+    memcpy(speeds_before, speeds, SPEEDS * sizeof *speeds);
+    study.file[0] = 'f';
+    expect("start, mark", start(study, WORDS, 90000), 2);
+    study.file[0] = 'F';
+    expect("start, a word too few", start(study, WORDS - 1, 90000), 11);
+    expect("start, speed", start(study, WORDS, 100001), 14);
+    expect("sound, a word too few", study_sound(words, WORDS - 1, speeds, SPEEDS), 12);
+    expect("step, two arrivals", study_step(words, WORDS, speeds, SPEEDS, two, 2), 13);
+    expect("step, arrival", step(study, 1000001), 15);
+    expect("sign, segment", study_sign(words, WORDS, speeds, SPEEDS, 2, 80, 0), 17);
+    expect("sign, limit", study_sign(words, WORDS, speeds, SPEEDS, 1, 19, 0), 18);
+    expect("sign, compliance", study_sign(words, WORDS, speeds, SPEEDS, 1, 80, -501), 18);
+    expect("open at segment 1", study_meter_open(words, WORDS, speeds, SPEEDS, 1), 19);
+    expect("fixed at segment 1", study_meter_fixed(words, WORDS, speeds, SPEEDS, 1, 0), 19);
+    expect("ALINEA at segment 1", study_meter_alinea(words, WORDS, speeds, SPEEDS, 1, 30, 100, 0, 1), 19);
+    expect("hold, slot 0", hold(study, 0), 21);
+    expect("report, slot 7", study_report(words, WORDS, speeds, SPEEDS, 7, figures, 7), 21);
+    expect("report, empty slot", study_report(words, WORDS, speeds, SPEEDS, 1, figures, 7), 23);
+    expect("report, room", study_report(words, WORDS, speeds, SPEEDS, 0, figures, 5), 24);
+    expect("words stay", (uint64_t)memcmp(words, words_before, WORDS * sizeof *words), 0);
+    expect("speeds stay", (uint64_t)memcmp(speeds, speeds_before, SPEEDS * sizeof *speeds), 0);
+    free(words_before);
+    free(speeds_before);
+}
+
+/* A sign is accepted: V becomes the lesser of the curve's 100,000 and 70 x (1000 - 100). */
+static void signs(Study study)
+{
+    expect("sign", study_sign(study.words, WORDS, study.speeds, SPEEDS, 1, 70, -100), 0);
+    expect("step under a sign", step(study, 0), 0);
+    expect_segment(study, 97500.0 + 0.5 * (63000.0 - 97500.0), 5717, 0);
+}
+
+/* The network comes back as the file it came from; a byte too few is 24. */
+static void writing(Study study)
+{
+    uint8_t *out = lend(FILE_BYTES);
+    uint64_t refused = study_write(study.words, WORDS, study.speeds, SPEEDS, out, FILE_BYTES - 1);
+    expect("write, room", refused, 24);
+    expect("bytes stay", out[0], 0xa5);
+    expect("write", study_write(study.words, WORDS, study.speeds, SPEEDS, out, FILE_BYTES), 0);
+    expect("file", (uint64_t)memcmp(out, study.file, FILE_BYTES), 0);
+    free(out);
+}
+
+int main(void)
+{
+    Study study = {lend(WORDS * sizeof(uint64_t)), lend(SPEEDS * sizeof(double)), lend(FILE_BYTES)};
+    build_file(study.file);
+    expect("check", network_check(study.file, FILE_BYTES), 0);
+    expect("step before start", step(study, 0), 12);
+    tallies(study);
+    slots(study);
+    refusals(study);
+    signs(study);
+    writing(study);
+    free(study.words);
+    free(study.speeds);
+    free(study.file);
+    if (differences == 0)
+        puts("tallies: every figure as in document 01");
+    return differences == 0 ? 0 : 1;
+}

@@ -107,7 +107,13 @@ begun-total s =
 
 balance : {h : List Entry} {z : Arrays} {b : Book} (s : Since h b) (k : ℕ) (l : Line) → Kept z b k l
     → Balanced (b .network) (b .begun) (handed (b .network) (s .mvs) (s .queues)) l (caseAt (z .words) (z .speeds) k)
-balance s k l K = rw (K .is) (rw (← (begun-total s)) (K .good .balance))
+balance s k l K =
+    rw (K .is)
+    (record {
+      arrivals = K .good .arrivals-are;
+      exits = K .good .exits-are;
+      vehicles = rw (← (begun-total s)) (K .good .balance);
+    })
 
 -- ---- demand 3
 

@@ -26,6 +26,7 @@ pub mod Sim
 pub mod Past
 pub mod Demand3
 pub mod Agreed
+pub mod WriteBack
 pub mod Example
 pub mod Network
 pub mod Settings

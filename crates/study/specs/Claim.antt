@@ -149,10 +149,14 @@ sizesWithin m (e ∷ es) = (not (isStart (kindIn e)) || leb (broughtBy (e .call)
 abbrev pub handed : Network → List ℕ → List ℕ → ℕ
 handed w mvs queues = sumOf (λ i. getD mvs i 0) (w .head .size) + sumOf (λ i. getD queues i 0) (w .head .size)
 
--- vehicles in segments plus queues of the case c of the line l equal v, plus the arrivals handed to its steps, minus the exits by the
--- step rule over its steps
-abbrev pub Balanced : Network → Case → ℕ → Line → Case → Type 0
-Balanced w begun v l c = totalOf w c + exitsOf w begun l ≡ v + arrivalsOf w l
+-- the vehicles of the case c of the line l, from the start case begun with v mv handed to Start
+pub record Balanced (w : Network) (begun : Case) (v : ℕ) (l : Line) (c : Case) : Type 0 where
+  -- arrivals of a line are the sum of those handed to its steps
+  pub arrivals : c .arrivals ≡ arrivalsOf w l
+  -- exits are the sum, over its steps, of all exit parts and of what leaves after segment n
+  pub exits : c .exits ≡ exitsOf w begun l
+  -- vehicles at the start are the mv and queues handed to Start; with the arrivals they are in segments, in queues or among the exits
+  pub vehicles : totalOf w c + exitsOf w begun l ≡ v + arrivalsOf w l
 
 -- ---- the book after the history h is of the last accepted Start and of what was accepted since
 pub record Since (h : List Entry) (b : Book) : Type 0 where
@@ -187,7 +191,7 @@ pub record Holds (a : Arrays) (xs : List Answer) (z : Arrays) (h : List Entry) (
   pub since : Since h b
   pub filled-since : (k : ℕ) → filledAt (z .words) k ≡ heldIn k (since .later)
   pub runs-since : runCountAt (z .words) ≡ stepsIn (since .later)
-  -- vehicles balance on the live and each held line
+  -- arrivals, exits and vehicles of the live and each held line
   pub live-balance : Balanced (b .network) (b .begun) (handed (b .network) (since .mvs) (since .queues)) (b .live) (caseAt (z .words) (z .speeds) 0)
   pub held-balance : (k : ℕ) (l : Line) → b .slot k ≡ some l
       → Balanced (b .network) (b .begun) (handed (b .network) (since .mvs) (since .queues)) l (caseAt (z .words) (z .speeds) k)

@@ -15,7 +15,7 @@ use Rattle.study.specs.Arrangement.{networkAt, filledAt, caseAt}
 use Rattle.study.specs.Sound.{sound}
 use Rattle.study.specs.Calls.{Call, start, sign, meter, step, hold, recall, dropSlot, report, reportSegment, reportRuns, Answer, refused, figures}
 use Rattle.study.specs.Start.{startCase}
-use Rattle.study.specs.Refusal.{caseNumber, refusal}
+use Rattle.study.specs.Refusal.{askedNumber, refusal}
 use Rattle.study.specs.Perform.{Arrays, Outcome, unless, refusalAt, caseFigures, segmentFigures, answerOf, perform}
 use Rattle.study.specs.Book.{Line, Book, caseOf, isFilled, caseIn, started, entered, groundsIn, enter}
 use Rattle.study.specs.Claim.{Entry, after, bookAfter, Holds}
@@ -106,7 +106,7 @@ module _ (k : ℕ) (y z : Arrays) (sound-y : sound (y .words) (y .speeds) ≡ tr
   sounds = sound-z ∙ sym sound-y
 
   report-same : perform (report k) z .answer ≡ perform (report k) y .answer
-  unfolding perform refusalAt refusal caseNumber answerOf
+  unfolding perform refusalAt refusal askedNumber answerOf
   report-same =
       said-is (refusalAt (report k) z) z _
       ∙ (λ j. said
@@ -115,7 +115,7 @@ module _ (k : ℕ) (y z : Arrays) (sound-y : sound (y .words) (y .speeds) ≡ tr
       ∙ sym (said-is (refusalAt (report k) y) y _)
 
   segment-same : (i : ℕ) → perform (reportSegment k i) z .answer ≡ perform (reportSegment k i) y .answer
-  unfolding perform refusalAt refusal caseNumber answerOf
+  unfolding perform refusalAt refusal askedNumber answerOf
   segment-same i =
       said-is (refusalAt (reportSegment k i) z) z _
       ∙ (λ j. said

@@ -25,7 +25,7 @@ use Rattle.model.specs.Sound.{arrivalNumber, stepNumber}
 use Rattle.study.specs.Arrangement.{wordsFor, speedsFor}
 use Rattle.study.specs.Calls.{accepted}
 use Rattle.study.specs.Start.{startRow, startCase, startSegmentNumber, startNumber}
-use Rattle.study.specs.Refusal.{caseNumber, refusal}
+use Rattle.study.specs.Refusal.{askedNumber, refusal}
 use Rattle.study.specs.Perform.{Arrays, refusalAt, unless, caseFigures, segmentFigures, answerOf}
 use Rattle.study.specs.Book.{Book, stepsOf, change, caseOf, started, entered, enter}
 use Rattle.study.specs.Claim.{bookAnswers}
@@ -55,7 +55,7 @@ unfolding oneSegment startNumber startSegmentNumber row firstOf first anyOf
 lists-taken = refl
 
 in-book : (words speeds : ℕ) → bookAnswers words speeds calls (started tallies (startOf tallies)) ≡ expected
-unfolding bookAnswers calls expected enter entered unless refusal caseNumber answerOf caseFigures segmentFigures oneSegment startCase startRow stepsOf caseOf change stepNumber arrivalNumber row first firstOf anyOf stepOn newSpeed keep signOf rateOf sumOf add sub mul div lt le ofInt toUnsigned toBits
+unfolding bookAnswers calls expected enter entered unless refusal askedNumber answerOf caseFigures segmentFigures oneSegment startCase startRow stepsOf caseOf change stepNumber arrivalNumber row first firstOf anyOf stepOn newSpeed keep signOf rateOf sumOf add sub mul div lt le ofInt toUnsigned toBits
 in-book words speeds = refl
 
 module _ (a : Arrays) (many : 2744 ≤ length (a .words)) (paced : 7 ≤ length (a .speeds)) where

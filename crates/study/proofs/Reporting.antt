@@ -33,7 +33,7 @@ use Rattle.study.specs.Arrangement.{caseWord, caseSpeed, networkAt, size
 use Rattle.study.specs.Sound.{sound}
 use Rattle.study.specs.Ready.{Laid}
 use Rattle.study.specs.Calls.{Call, report, reportSegment, Answer, figures, caseSays, segmentSays}
-use Rattle.study.specs.Refusal.{caseNumber, refusal}
+use Rattle.study.specs.Refusal.{askedNumber, refusal}
 use Rattle.study.specs.Perform.{Arrays, lent, isStart, refusalAt, caseFigures, segmentFigures}
 use Rattle.study.specs.Figures.{figureAt, figuresAt, rowFigures, Summable, Reportable, Showable}
 use Rattle.study.proofs.Judging.{placed, size-high}
@@ -55,7 +55,7 @@ module _ (words : List ℕ) (speeds : List Float) where
   module _ (k : ℕ) where
     module _ (s : sound words speeds ≡ true) where
       rows : refusalAt (report k) a ≡ row (ltb 6 k) 21 (row (not (eqb k 0 || filledAt words k)) 23 0)
-      unfolding refusal caseNumber
+      unfolding refusal askedNumber
       rows = judged (report k) words speeds refl s
 
       pub case-none : 6 < k → 21 ≡ refusalAt (report k) a

@@ -8,7 +8,7 @@ use borrow.Author.Tests.{not-false}
 use Rattle.laws.proofs.First.{row-passed, row-later, first-zero-left}
 use Rattle.study.specs.Arrangement.{networkAt, runCountAt, caseAt}
 use Rattle.study.specs.Calls.{Call, start, sign, meter, step, hold, recall, dropSlot, report, reportSegment, reportRuns, figures}
-use Rattle.study.specs.Refusal.{caseNumber, refusal}
+use Rattle.study.specs.Refusal.{askedNumber, refusal}
 use Rattle.study.specs.Perform.{Arrays, Outcome, unless, storedWords, storedSpeeds, caseFigures, segmentFigures, answerOf, perform}
 use Rattle.study.specs.Book.{Book, isFilled, caseIn, entered, groundsIn, enter}
 use Rattle.study.proofs.Rel.{Rel}
@@ -37,8 +37,8 @@ module _ {words speeds : ℕ} {a : Arrays} {b : Book} (r : Rel words speeds a b)
   store-rel (reportSegment k i) e = r
   store-rel reportRuns e = r
 
-  asked : (k : ℕ) → caseNumber (groundsIn words speeds b) k ≡ 0 → (eqb k 0 || isFilled (b .slot k)) ≡ true
-  unfolding caseNumber
+  asked : (k : ℕ) → askedNumber (groundsIn words speeds b) k ≡ 0 → (eqb k 0 || isFilled (b .slot k)) ≡ true
+  unfolding askedNumber
   asked k e = not-false _ (row-passed _ _ _ (row-later _ _ _ e))
 
   answer-same : (c : Call) → refusal c (groundsIn words speeds b) ≡ 0

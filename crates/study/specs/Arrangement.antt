@@ -7,19 +7,30 @@ use lib.Dec.{leb, eqb}
 use lib.ListN.{getD}
 use lib.Ieee.{Float}
 use Rattle.network.specs.Network.{Network}
-use Rattle.network.specs.Words.{headIn, networkIn}
+use Rattle.network.specs.Words.{networkWords, headIn, networkIn}
 use Rattle.model.specs.Case.{Case}
 use Rattle.model.specs.Words.{netOf, caseIn}
 
 -- ---- places
 
--- the run count's word
-abbrev pub runWord : ℕ
-runWord = 2560
+-- slots 1..6; case 0 is the live one
+abbrev pub slots : ℕ
+slots = 6
 
--- the mark of slot k, 1..6
+abbrev pub cases : ℕ
+cases = 1 + slots
+
+-- the run count's word, the first after the network's
+abbrev pub runWord : ℕ
+runWord = networkWords
+
+-- the mark of slot k
 abbrev pub markWord : ℕ → ℕ
-markWord k = 2560 + k
+markWord k = runWord + k
+
+-- the words of run count and marks, with some that are free
+abbrev pub marksLength : ℕ
+marksLength = 16
 
 -- the words of a case of n segments
 abbrev pub caseLength : ℕ → ℕ
@@ -27,17 +38,17 @@ caseLength n = 16 * n + 8
 
 -- case k's first word and first speed
 abbrev pub caseWord : ℕ → ℕ → ℕ
-caseWord n k = 2576 + k * caseLength n
+caseWord n k = runWord + marksLength + k * caseLength n
 
 abbrev pub caseSpeed : ℕ → ℕ → ℕ
 caseSpeed n k = k * n
 
 -- at least 2,560 + 7 × (16n + 8) + 16 words and 7n speeds
 abbrev pub wordsFor : ℕ → ℕ
-wordsFor n = 2576 + 7 * caseLength n
+wordsFor n = runWord + marksLength + cases * caseLength n
 
 abbrev pub speedsFor : ℕ → ℕ
-speedsFor n = 7 * n
+speedsFor n = cases * n
 
 -- ---- what stands there
 
@@ -55,7 +66,7 @@ markAt words k = getD words (markWord k) 0
 
 -- slot k is filled: its mark is 1
 abbrev pub filledAt : List ℕ → ℕ → Bool
-filledAt words k = leb 1 k && leb k 6 && eqb (markAt words k) 1
+filledAt words k = leb 1 k && leb k slots && eqb (markAt words k) 1
 
 abbrev pub caseAt : List ℕ → List Float → ℕ → Case
 caseAt words speeds k = caseIn words speeds (caseWord (sizeAt words) k) (caseSpeed (sizeAt words) k) (sizeAt words)

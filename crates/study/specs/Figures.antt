@@ -14,6 +14,7 @@ use Rattle.model.specs.Step.{rateOf}
 use Rattle.model.specs.Sound.{mvMost}
 use Rattle.study.specs.declared.CaseFigures.{CaseFigures}
 use Rattle.study.specs.declared.SegmentFigures.{SegmentFigures}
+use Rattle.study.specs.Arrangement.{slots}
 use Rattle.study.specs.Sound.{placeNumber}
 use Rattle.study.specs.Ready.{Laid}
 
@@ -59,7 +60,7 @@ pub record Summable (words : List ℕ) (at o n : ℕ) : Type 0 where
 -- a report may be given of case k of a study of n segments
 pub record Reportable (words : List ℕ) (speeds : List Float) (n k : ℕ) : Type 0 where
   pub laid : Laid words speeds n
-  pub high : k ≤ 6
+  pub high : k ≤ slots
   pub sound : placeNumber words speeds k ≡ 0
 
 -- a speed has a whole part that 64 bits hold, and it has bits

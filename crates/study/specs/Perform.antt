@@ -17,7 +17,7 @@ use Rattle.model.specs.Case.{Case, rowOf}
 use Rattle.model.specs.Step.{rateOf}
 use Rattle.model.specs.Words.{codedWords, codedSpeeds, stepCaseWords, stepCaseSpeeds}
 use Rattle.study.specs.declared.Setting.{Setting}
-use Rattle.study.specs.Arrangement.{runWord, markWord, caseLength, caseWord, caseSpeed, networkAt, sizeAt, runCountAt, filledAt, caseAt}
+use Rattle.study.specs.Arrangement.{runWord, markWord, marksLength, caseLength, caseWord, caseSpeed, networkAt, sizeAt, runCountAt, filledAt, caseAt}
 use Rattle.study.specs.Sound.{sound}
 use Rattle.study.specs.Calls.{Call, start, sign, meter, step, hold, recall, dropSlot, report, reportSegment, reportRuns, Answer, refused, accepted, figures}
 use Rattle.study.specs.Start.{startCase}
@@ -71,14 +71,14 @@ refusalAt c a = row (not (isStart c || sound (a .words) (a .speeds))) 12 (refusa
 
 -- Start: the network; run count and marks 0; the live case. The slots' words stay as they came
 unfoldable pub startWords : Network → Case → List ℕ → List ℕ
-startWords w c words = let n = w .head .size in keptWords w ++ (replicate 16 0 ++ (codedWords n c ++ drop (caseWord n 1) words))
+startWords w c words = let n = w .head .size in keptWords w ++ (replicate marksLength 0 ++ (codedWords n c ++ drop (caseWord n 1) words))
 
 unfoldable pub startSpeeds : Network → Case → List Float → List Float
 startSpeeds w c speeds = let n = w .head .size in codedSpeeds n c ++ drop n speeds
 
 -- the first word of segment i's row in the live case, i from 1
 abbrev pub rowWord : ℕ → ℕ
-rowWord i = 2576 + 16 * (i - 1)
+rowWord i = runWord + marksLength + 16 * (i - 1)
 
 -- the 16 words of a row, with a sign and with a setting; Q is the segment's
 unfoldable pub signedWords : ℕ → ℤ → List ℕ → List ℕ

@@ -7,7 +7,7 @@ use Rattle.laws.specs.First.{outside, row, first}
 use Rattle.network.specs.Network.{Network, entryOf, segmentOf}
 use Rattle.network.specs.File.{fileNumber, networkOf}
 use Rattle.model.specs.Sound.{stepNumber}
-use Rattle.study.specs.Arrangement.{wordsFor, speedsFor}
+use Rattle.study.specs.Arrangement.{slots, wordsFor, speedsFor}
 use Rattle.study.specs.Sound.{runsMost}
 use Rattle.study.specs.Calls.{Call, start, sign, meter, step, hold, recall, dropSlot, report, reportSegment, reportRuns}
 use Rattle.study.specs.Start.{startNumber}
@@ -27,16 +27,16 @@ pub record Grounds : Type 0 where
 abbrev pub segmentMissing : Grounds → ℕ → Bool
 segmentMissing g i = outside 1 i (g .network .head .size)
 
--- 21 no such slot, 1..6
+-- 21 no such slot
 abbrev pub slotMissing : ℕ → Bool
-slotMissing k = outside 1 k 6
+slotMissing k = outside 1 k slots
 
 -- Report: 21 no such slot; 23 an empty one. Case 0 is the live one
-unfoldable pub caseNumber : Grounds → ℕ → ℕ
-caseNumber g k = row (ltb 6 k) 21 (row (not (eqb k 0 || g .filled k)) 23 0)
+unfoldable pub askedNumber : Grounds → ℕ → ℕ
+askedNumber g k = row (ltb slots k) 21 (row (not (eqb k 0 || g .filled k)) 23 0)
 
 unfoldable pub refusal : Call → Grounds → ℕ
-unfolding caseNumber
+unfolding askedNumber
 -- after the file: 11 arrays too short; 13 list length; 14
 refusal (start file mvs speeds queues) g =
     let w = networkOf file in
@@ -57,7 +57,7 @@ refusal (step arrivals) g =
 refusal (hold k) g = row (slotMissing k) 21 (row (g .filled k) 22 0)
 refusal (recall k) g = row (slotMissing k) 21 (row (not (g .filled k)) 23 0)
 refusal (dropSlot k) g = row (slotMissing k) 21 (row (not (g .filled k)) 23 0)
-refusal (report k) g = caseNumber g k
+refusal (report k) g = askedNumber g k
 -- 17 after 21, 23
-refusal (reportSegment k i) g = first (caseNumber g k) (row (segmentMissing g i) 17 0)
+refusal (reportSegment k i) g = first (askedNumber g k) (row (segmentMissing g i) 17 0)
 refusal reportRuns g = 0

@@ -10,7 +10,7 @@ use Rattle.laws.specs.First.{row, first, firstOf}
 use Rattle.network.specs.Words.{keptNumber}
 use Rattle.model.specs.Words.{netOf}
 use Rattle.model.specs.Sound.{caseNumberIn}
-use Rattle.study.specs.Arrangement.{caseWord, caseSpeed, wordsFor, speedsFor, sizeAt, runCountAt, markAt}
+use Rattle.study.specs.Arrangement.{slots, caseWord, caseSpeed, wordsFor, speedsFor, sizeAt, runCountAt, markAt}
 
 abbrev pub runsMost : ℕ
 runsMost = 1000000
@@ -28,7 +28,7 @@ unfoldable pub casesNumber : List ℕ → List Float → ℕ
 unfolding slotNumber
 casesNumber words speeds =
     row (ltb runsMost (runCountAt words)) 12
-    (first (placeNumber words speeds 0) (firstOf (λ k. slotNumber words speeds (k + 1)) 6))
+    (first (placeNumber words speeds 0) (firstOf (λ k. slotNumber words speeds (k + 1)) slots))
 
 unfoldable pub soundNumber : List ℕ → List Float → ℕ
 unfolding casesNumber

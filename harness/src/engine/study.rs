@@ -10,7 +10,7 @@ use oracle::case::{Alinea, Setting};
 pub fn ask(words: &mut [u64], speeds: &mut [f64], call: &Call) -> Answer {
     let mut answer = Answer::lent(call);
     answer.number = match call {
-        Call::Start(begin) => start(words, speeds, begin),
+        Call::Start(begin) => narrowed_start(words, speeds, begin),
         Call::Meter { segment, setting } => meter(words, speeds, *segment, *setting),
         Call::Step(arrivals) => step(words, speeds, arrivals),
         Call::Report { .. } | Call::ReportSegment { .. } | Call::RunCount { .. } => {
@@ -30,12 +30,15 @@ pub fn step(words: &mut [u64], speeds: &mut [f64], arrivals: &[u32]) -> u64 {
     unsafe { study_step(w, wl, s, sl, arrivals.as_ptr(), arrivals.len()) }
 }
 
-fn start(words: &mut [u64], speeds: &mut [f64], start: &Start) -> u64 {
-    let narrow = |list: &[u64]| list.iter().map(|&number| number as u32).collect();
-    let lists = [&start.counts, &start.speeds, &start.queues];
-    let [mvs, starts, queues]: [Box<[u32]>; 3] = lists.map(|list| narrow(list));
-    let (file, file_len) = (start.file.as_ptr(), start.file.len());
+/// Start: initial mv, speeds in whole m/h and queues in mv.
+pub fn start(
+    words: &mut [u64],
+    speeds: &mut [f64],
+    file: &[u8],
+    [mvs, starts, queues]: [&[u32]; 3],
+) -> u64 {
     let (w, wl, s, sl) = parts(words, speeds);
+    let (file, file_len) = (file.as_ptr(), file.len());
     let (mvs, mvs_len) = (mvs.as_ptr(), mvs.len());
     let (starts, starts_len) = (starts.as_ptr(), starts.len());
     let (queues, queues_len) = (queues.as_ptr(), queues.len());
@@ -45,6 +48,18 @@ fn start(words: &mut [u64], speeds: &mut [f64], start: &Start) -> u64 {
             w, wl, s, sl, file, file_len, mvs, mvs_len, starts, starts_len, queues, queues_len,
         )
     }
+}
+
+fn narrowed_start(words: &mut [u64], speeds: &mut [f64], begin: &Start) -> u64 {
+    let narrow = |list: &[u64]| list.iter().map(|&number| number as u32).collect();
+    let lists = [&begin.counts, &begin.speeds, &begin.queues];
+    let lists: [Box<[u32]>; 3] = lists.map(|list| narrow(list));
+    start(
+        words,
+        speeds,
+        &begin.file,
+        lists.each_ref().map(|list| &**list),
+    )
 }
 
 fn meter(words: &mut [u64], speeds: &mut [f64], segment: u64, setting: Setting) -> u64 {
@@ -67,7 +82,8 @@ fn meter(words: &mut [u64], speeds: &mut [f64], segment: u64, setting: Setting) 
     }
 }
 
-fn report(words: &mut [u64], speeds: &mut [f64], call: &Call, figures: &mut [u64]) -> u64 {
+/// A report of a case or of a segment, or the run count.
+pub fn report(words: &mut [u64], speeds: &mut [f64], call: &Call, figures: &mut [u64]) -> u64 {
     let (w, wl, s, sl) = parts(words, speeds);
     let (f, fl) = (figures.as_mut_ptr(), figures.len());
     // SAFETY: as above.
@@ -89,7 +105,7 @@ fn write(words: &mut [u64], speeds: &mut [f64], out: &mut [u8]) -> u64 {
 }
 
 /// Calls that lend nothing but the study.
-fn short(words: &mut [u64], speeds: &mut [f64], call: &Call) -> u64 {
+pub fn short(words: &mut [u64], speeds: &mut [f64], call: &Call) -> u64 {
     let (w, wl, s, sl) = parts(words, speeds);
     // SAFETY: as above.
     unsafe {

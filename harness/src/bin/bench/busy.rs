@@ -11,6 +11,11 @@ const FREE_SPEED: f64 = 102_000.0;
 const CRITICAL: f64 = 33.5;
 const EXPONENT: f64 = 1.867;
 
+/// Segments and curves of the roads that are timed.
+pub const ROADS: [(usize, usize); 3] = [(1, 1), (12, 2), (40, 8)];
+/// Steps after which the count begins at 0 again.
+pub const LINE_STEPS: u64 = 20_000;
+
 /// n segments of two lanes: an on-ramp at every fourth, an off-ramp two
 /// segments after it.
 pub fn road(segments: usize, curves: usize) -> Network {
@@ -63,10 +68,12 @@ pub fn arrivals(network: &Network) -> Vec<Vec<u32>> {
     (0..64).map(&mut step).collect()
 }
 
-/// mv per lane-metre over the road: its mean density in veh/km/lane.
-pub fn density(network: &Network, counts: impl Iterator<Item = u64>) -> u64 {
+/// The road has neither emptied nor jammed: mv per lane-metre over the road
+/// is its mean density in veh/km/lane.
+pub fn expect(network: &Network, counts: impl Iterator<Item = u64>) {
     let metres: u64 = network.segments.iter().map(Segment::lane_metres).sum();
-    counts.sum::<u64>() / metres
+    let density = counts.sum::<u64>() / metres;
+    assert!((10..60).contains(&density), "{density} veh/km/lane");
 }
 
 fn segment(place: usize, segments: usize, curves: usize) -> Segment {

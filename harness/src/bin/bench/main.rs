@@ -1,16 +1,46 @@
-//! Engine and oracle side by side: time of one `check`, of one step and of
-//! one Step on a study.
+//! `make bench`: engine and oracle (the second implementation) side by side,
+//! in one table. Ratios are the engine's time divided by the oracle's.
+//!
+//! Both sides do the same work on arrays of the same content, all reading and
+//! judging included: the engine through its C functions, the oracle through
+//! its calls on arrays. There the engine reads in place; the oracle makes
+//! typed data of the network and the live case, and its reports read their
+//! case once more. Roads are busy ones of 1, 12 and 40 segments with 1, 2 and
+//! 8 curves. Rows:
+//!
+//! - check: the number of a network file.
+//! - case_step: one step of a single case in arrays.
+//! - step alone: the one row of unlike work. Engine: case_step less the same
+//!   call refused by 16, which reads and judges only. Oracle: the bare step
+//!   on typed data, with nothing read, judged or stored.
+//! - start: Start on a file, over a study with empty slots. The lists are
+//!   numbers of 32 bits for the engine and of 64 for the oracle.
+//! - step: Step.
+//! - report, segment report: of the live case, or of slot 6 where slots are
+//!   filled; the segment is the last.
+//! - hold recall drop: three calls, each judged, on slot 6. Where slots are
+//!   filled it is Drop, Hold, Recall: slot 6 is empty between the first two.
+//!
+//! "Slots" is how many are filled; check, case_step and start read none.
+//!
+//! In the time: the caller's loop, a few words put back before every step so
+//! that no bound is reached, and a look at the number. Not in it: refused
+//! calls, Sign, Meter, the run count, Write, the program `tallies`; arrays
+//! that are not in the processor's caches; several threads.
 
 mod busy;
+mod case;
 mod check;
-mod step;
 mod study;
-mod timing;
+mod table;
 
 fn main() {
-    check::table();
-    println!();
-    step::table();
-    println!();
-    study::table();
+    table::print(rows);
+}
+
+fn rows() -> Vec<table::Row> {
+    let mut rows = check::rows();
+    rows.extend(case::rows());
+    rows.extend(study::rows());
+    rows
 }

@@ -1,99 +1,66 @@
-//! Time of one Step on a study of a busy road, slots filled or empty.
+//! Rows of the calls on a study of a busy road.
 //!
-//! Both sides are lent the same arrays: each judges the network and every
-//! filled case, makes the step and stores it. Totals and run count are put
-//! back before every call, so that no bound is ever reached; steps go round
-//! from 0 to 19,999, so that ALINEA's intervals divide them as on a line.
+//! Both sides are lent arrays of the same content: each judges the network
+//! and every filled case, and does the call. Before every step totals and run
+//! count are put back, so that no bound is ever reached; steps go round from
+//! 0 to 19,999, so that ALINEA's intervals divide them as on a line.
 
-use crate::busy;
-use crate::timing::{heading, row};
-use harness::engine;
-use harness::random::Random;
-use harness::single::{ARRIVALS, COUNT, EXITS, STEPS, TIME};
-use harness::study::{case_word, speeds_for, words_for, Study, RUNS};
-use oracle::book::{Call, SLOTS};
+mod engine_side;
+mod lent;
+mod oracle_side;
+
+use crate::busy::{self, ROADS};
+use crate::table::{Row, Side};
+use lent::{Lent, Work};
+use oracle::book::SLOTS;
 use oracle::file::Network;
-use std::hint::black_box;
 
-/// Steps after which the count begins at 0 again.
-const LINE_STEPS: usize = 20_000;
+/// Name of the row, whether filled slots matter, and its work on each side.
+const WORKS: [(&str, bool, Work, Work); 5] = [
+    ("start", false, engine_side::start, oracle_side::start),
+    ("step", true, engine_side::step, oracle_side::step),
+    ("report", true, engine_side::report, oracle_side::report),
+    (
+        "segment report",
+        true,
+        engine_side::report_segment,
+        oracle_side::report_segment,
+    ),
+    (
+        "hold recall drop",
+        true,
+        engine_side::hold_recall_drop,
+        oracle_side::hold_recall_drop,
+    ),
+];
 
-type Step = fn(&mut [u64], &mut [f64], &[u32]) -> u64;
-
-pub fn table() {
-    println!("one Step on a study; both sides read and judge the network and all filled cases in");
-    println!("the same arrays, make the step and store it");
-    heading("study_step");
-    for (segments, curves) in [(1, 1), (12, 2), (40, 8)] {
-        let network = busy::road(segments, curves);
-        for filled in [0, SLOTS] {
-            let mut engine = InArrays::new(&network, filled, engine::study::step);
-            let mut oracle = InArrays::new(&network, filled, oracle_step);
-            let name = format!("n {segments}, c {curves}, {filled} filled");
-            row(&name, || engine.step(), || oracle.step());
-            engine.expect_busy();
-            oracle.expect_busy();
+pub fn rows() -> Vec<Row> {
+    let mut rows = Vec::new();
+    for (name, slots_matter, engine, oracle) in WORKS {
+        for (n, curves) in ROADS {
+            let network = busy::road(n, curves);
+            rows.push(row(name, &network, 0, [engine, oracle]));
+            match slots_matter {
+                true => rows.push(row(name, &network, SLOTS, [engine, oracle])),
+                false => rows.last_mut().expect("a row").filled = None,
+            }
         }
     }
+    rows
 }
 
-fn oracle_step(words: &mut [u64], speeds: &mut [f64], arrivals: &[u32]) -> u64 {
-    match oracle::study::call(words, speeds, &Call::Step { arrivals }) {
-        Ok(_) => 0,
-        Err(number) => u64::from(number),
+fn row(name: &'static str, network: &Network, filled: usize, works: [Work; 2]) -> Row {
+    let [mut engine, mut oracle] = works.map(|work| Lent::new(network, filled, work));
+    for _ in 0..100 {
+        assert_eq!((engine.call(), oracle.call()), (0, 0), "accepted calls");
     }
-}
-
-/// A study in arrays, for either side.
-struct InArrays<'a> {
-    network: &'a Network,
-    words: Box<[u64]>,
-    speeds: Box<[f64]>,
-    arrivals: Vec<Vec<u32>>,
-    turn: usize,
-    step: Step,
-}
-
-impl InArrays<'_> {
-    /// The same traffic live and in the first slots.
-    fn new(network: &Network, filled: usize, step: Step) -> InArrays<'_> {
-        let n = network.segments.len();
-        let case = busy::traffic(network);
-        let study = Study {
-            network: network.clone(),
-            runs: 0,
-            marks: std::array::from_fn(|slot| u64::from(slot < filled)),
-            cases: vec![Some(case); SLOTS + 1],
-        };
-        let arrays = study.laid(&mut Random::new(1, 1, 1));
-        InArrays {
-            network,
-            words: arrays.words[..words_for(n)].into(),
-            speeds: arrays.speeds[..speeds_for(n)].into(),
-            arrivals: busy::arrivals(network),
-            turn: 0,
-            step,
-        }
-    }
-
-    fn step(&mut self) -> u64 {
-        let n = self.network.segments.len();
-        self.words[RUNS] = 0;
-        let totals = &mut self.words[case_word(n, 0) + 16 * n..];
-        totals[STEPS] = (self.turn % LINE_STEPS) as u64;
-        (totals[ARRIVALS], totals[EXITS], totals[TIME]) = (0, 0, 0);
-        let arrivals = &self.arrivals[self.turn % self.arrivals.len()];
-        self.turn += 1;
-        let number = (self.step)(&mut self.words, &mut self.speeds, black_box(arrivals));
-        assert_eq!(number, 0, "an accepted step");
-        number
-    }
-
-    /// The road has neither emptied nor jammed.
-    fn expect_busy(&self) {
-        let n = self.network.segments.len();
-        let count = |place| self.words[case_word(n, 0) + 16 * place + COUNT];
-        let density = busy::density(self.network, (0..n).map(count));
-        assert!((10..60).contains(&density), "{density} veh/km/lane");
+    assert!(engine.same(&oracle), "{name}: the sides differ");
+    Row {
+        name,
+        n: network.segments.len(),
+        filled: Some(filled),
+        engine: Box::new(engine),
+        less: None,
+        oracle: Box::new(oracle),
     }
 }

@@ -1,0 +1,112 @@
+//! A study in lent arrays with the arguments of its calls, for either side.
+
+use crate::busy::{self, LINE_STEPS};
+use crate::table::Side;
+use harness::random::Random;
+use harness::single::{ARRIVALS, COUNT, EXITS, STEPS, TIME};
+use harness::study::{case_word, speeds_for, words_for, Study, RUNS};
+use oracle::book::SLOTS;
+use oracle::file::{self, Network};
+
+/// One timed call, or three. It answers 0 where all are accepted.
+pub type Work = fn(&mut Lent) -> u64;
+
+pub struct Lent {
+    pub words: Box<[u64]>,
+    pub speeds: Box<[f64]>,
+    /// What a report gave.
+    pub figures: [u64; 7],
+    pub arguments: Arguments,
+    work: Work,
+    turn: usize,
+}
+
+/// What is handed to the calls beside the arrays.
+pub struct Arguments {
+    network: Network,
+    pub file: Vec<u8>,
+    /// Initial mv, speeds and queues: for the engine, and for the oracle.
+    pub lists: [Vec<u32>; 3],
+    pub wide_lists: [Vec<u64>; 3],
+    arrivals: Vec<Vec<u32>>,
+    /// The case that reports are of: the live one, or the last filled slot.
+    pub case: u64,
+    /// The segment that a report is of.
+    pub segment: u64,
+}
+
+impl Lent {
+    /// The same traffic live and in the first slots.
+    pub fn new(network: &Network, filled: usize, work: Work) -> Lent {
+        let n = network.segments.len();
+        let study = Study {
+            network: network.clone(),
+            runs: 0,
+            marks: std::array::from_fn(|slot| u64::from(slot < filled)),
+            cases: vec![Some(busy::traffic(network)); SLOTS + 1],
+        };
+        let arrays = study.laid(&mut Random::new(1, 1, 1));
+        Lent {
+            words: arrays.words[..words_for(n)].into(),
+            speeds: arrays.speeds[..speeds_for(n)].into(),
+            figures: [0; 7],
+            arguments: Arguments::new(network, filled),
+            work,
+            turn: 0,
+        }
+    }
+
+    /// Every word, every bit and every figure is the same.
+    pub fn same(&self, other: &Lent) -> bool {
+        let bits = |lent: &Lent| lent.speeds.iter().map(|v| v.to_bits()).collect::<Vec<_>>();
+        self.words == other.words && bits(self) == bits(other) && self.figures == other.figures
+    }
+
+    /// Puts totals and run count back, and gives the arrays and the arrivals
+    /// of the next step.
+    pub fn next_step(&mut self) -> (&mut [u64], &mut [f64], &[u32]) {
+        let n = self.arguments.network.segments.len();
+        self.words[RUNS] = 0;
+        let totals = &mut self.words[case_word(n, 0) + 16 * n..];
+        totals[STEPS] = self.turn as u64 % LINE_STEPS;
+        (totals[ARRIVALS], totals[EXITS], totals[TIME]) = (0, 0, 0);
+        let arrivals = &self.arguments.arrivals;
+        let arrivals = &arrivals[self.turn % arrivals.len()];
+        self.turn += 1;
+        (&mut self.words, &mut self.speeds, arrivals)
+    }
+}
+
+impl Side for Lent {
+    fn call(&mut self) -> u64 {
+        (self.work)(self)
+    }
+
+    fn expect(&self) {
+        let network = &self.arguments.network;
+        let n = network.segments.len();
+        let count = |place| self.words[case_word(n, 0) + 16 * place + COUNT];
+        busy::expect(network, (0..n).map(count));
+    }
+}
+
+impl Arguments {
+    fn new(network: &Network, filled: usize) -> Arguments {
+        let segments = busy::traffic(network).segments;
+        let wide_lists = [
+            segments.iter().map(|state| state.count).collect(),
+            segments.iter().map(|state| state.speed as u64).collect(),
+            segments.iter().map(|state| state.queue).collect(),
+        ];
+        let narrow = |list: &Vec<u64>| list.iter().map(|&number| number as u32).collect();
+        Arguments {
+            network: network.clone(),
+            file: file::write(network),
+            lists: wide_lists.each_ref().map(narrow),
+            wide_lists,
+            arrivals: busy::arrivals(network),
+            case: filled as u64,
+            segment: segments.len() as u64,
+        }
+    }
+}

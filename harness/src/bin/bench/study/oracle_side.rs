@@ -1,0 +1,79 @@
+//! The same calls asked of the oracle, on arrays of the same content.
+
+use super::lent::Lent;
+use oracle::book::{Answer, Call, Start, SLOTS};
+use oracle::study;
+use std::hint::black_box;
+
+pub fn start(lent: &mut Lent) -> u64 {
+    let [counts, speeds, queues] = &lent.arguments.wide_lists;
+    let call = Call::Start(Start {
+        file: black_box(&lent.arguments.file),
+        counts,
+        speeds,
+        queues,
+    });
+    number(study::call(&mut lent.words, &mut lent.speeds, &call))
+}
+
+pub fn step(lent: &mut Lent) -> u64 {
+    let (words, speeds, arrivals) = lent.next_step();
+    let arrivals = black_box(arrivals);
+    number(study::call(words, speeds, &Call::Step { arrivals }))
+}
+
+pub fn report(lent: &mut Lent) -> u64 {
+    let case = black_box(lent.arguments.case);
+    report_of(lent, &Call::ReportCase { case })
+}
+
+pub fn report_segment(lent: &mut Lent) -> u64 {
+    let case = black_box(lent.arguments.case);
+    let segment = black_box(lent.arguments.segment);
+    report_of(lent, &Call::ReportSegment { case, segment })
+}
+
+pub fn hold_recall_drop(lent: &mut Lent) -> u64 {
+    let slot = black_box(SLOTS as u64);
+    let [hold, recall, drop] = [
+        Call::Hold { slot },
+        Call::Recall { slot },
+        Call::Drop { slot },
+    ];
+    let calls = match lent.arguments.case {
+        0 => [hold, recall, drop],
+        _ => [drop, hold, recall],
+    };
+    let mut ask = |call| number(study::call(&mut lent.words, &mut lent.speeds, call));
+    calls.iter().map(&mut ask).sum()
+}
+
+fn number(result: Result<Answer, u8>) -> u64 {
+    result.err().map_or(0, u64::from)
+}
+
+/// A report with its figures put where the engine puts them.
+fn report_of(lent: &mut Lent, call: &Call) -> u64 {
+    let result = study::call(&mut lent.words, &mut lent.speeds, call);
+    match &result {
+        Ok(Answer::Case(of)) => lent.figures[..6].copy_from_slice(&[
+            of.steps,
+            of.in_segments,
+            of.in_queues,
+            of.arrivals,
+            of.exits,
+            of.time,
+        ]),
+        Ok(Answer::Segment(of)) => lent.figures.copy_from_slice(&[
+            of.count,
+            of.whole_speed,
+            of.speed_bits,
+            of.queue,
+            of.last_outflow,
+            of.last_release,
+            of.rate,
+        ]),
+        _ => {}
+    }
+    number(result)
+}

@@ -136,7 +136,7 @@ impl Arrays<'_> {
     /// Case 0 (live) or 1..6, by rows 21 and 23.
     fn case(&self, case: u64) -> Result<Case, u8> {
         let number = match case {
-            0 => 0,
+            0 => return Ok(self.study.live.clone()),
             _ => *rows::judge_filled(&self.study.slots, case)?.1,
         };
         let read = self.study.case(self.words, self.speeds, number);

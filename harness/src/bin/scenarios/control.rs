@@ -3,15 +3,25 @@
 use crate::live::Live;
 use oracle::case::{Alinea, Setting};
 
-/// A ramp under ALINEA until its queue has the longest length. From then on
-/// the whole demand enters, until the density of the ramp's segment is below
-/// the target; then ALINEA begins anew.
+/// A ramp under ALINEA until its queue is full. From then on the whole demand
+/// enters, until the density of the ramp's segment is below the target; then
+/// ALINEA begins anew.
 pub struct Ramp {
     pub segment: u64,
     pub alinea: Alinea,
     /// In mv.
     pub longest_queue: u64,
+    pub rule: Rule,
     state: State,
+}
+
+/// When a queue is full.
+#[derive(Clone, Copy, PartialEq)]
+pub enum Rule {
+    /// It has its longest length, and the density is not below the target.
+    First,
+    /// It has its longest length, whatever the density.
+    Second,
 }
 
 #[derive(PartialEq)]
@@ -22,16 +32,17 @@ enum State {
 }
 
 impl Ramp {
-    pub fn new(segment: u64, alinea: Alinea, longest_queue: u64) -> Ramp {
+    pub fn new(segment: u64, alinea: Alinea, longest_queue: u64, rule: Rule) -> Ramp {
         Ramp {
             segment,
             alinea,
             longest_queue,
+            rule,
             state: State::Unset,
         }
     }
 
-    /// The queue has had its longest length, and the road is still dense.
+    /// The queue was full, and the road is still dense.
     pub fn full(&self) -> bool {
         self.state == State::Full
     }
@@ -43,7 +54,10 @@ impl Ramp {
         let road = &live.network().segments[place];
         let (lane_metres, most) = (road.lane_metres(), u64::from(road.most_released));
         let dense = seen.count >= self.alinea.target * lane_metres;
-        let full = dense && (self.full() || seen.queue >= self.longest_queue);
+        let full = match self.full() {
+            true => dense,
+            false => seen.queue >= self.longest_queue && (dense || self.rule == Rule::Second),
+        };
         if full {
             let demand = u64::from(arrivals[place]).min(most);
             live.meter(self.segment, Setting::Fixed(demand));

@@ -1,11 +1,11 @@
 //! Source document 000, section 4: six segments of 1 km, an on-ramp at the
 //! fifth, signs at the third and fourth.
 
-use crate::control::Ramp;
+use crate::control::{Ramp, Rule};
 use crate::live::Live;
 use crate::road::{mv_a_step, network, plain, put_origin, Diagram};
 use crate::run::{Outcome, SetUp};
-use crate::table::{row, saving};
+use crate::table::{row, spent};
 use oracle::case::Alinea;
 
 const RAMP: u64 = 5;
@@ -17,6 +17,8 @@ const MAIN_LOW: f64 = 1000.0;
 const RAMP_LOW: f64 = 500.0;
 /// ALINEA's gain in veh/h for each veh/km/lane.
 const GAIN: f64 = 40.0;
+/// What the signs show, in km/h.
+const LIMIT: u64 = 50;
 
 /// Both readings of "near capacity".
 pub fn rows() {
@@ -27,40 +29,26 @@ pub fn rows() {
 fn cases(peak: f64) {
     let set_up = set_up(peak);
     let open = set_up.run(|_, _, _| {});
-    let metered = set_up.run(control(0));
-    let signed = set_up.run(control(50));
-    let without = open.time_spent;
-    let case = |name: &str| format!("{name}, ramp peak {peak:.0}");
-    uncontrolled(&case("no control"), &open);
-    let name = case("ramp metering");
+    uncontrolled(&format!("no control, ramp peak {peak:.0}"), &open);
+    for (rule, name) in [(Rule::First, "first rule"), (Rule::Second, "second rule")] {
+        let metered = set_up.run(control(rule, 0));
+        let case = format!("ramp metering, {name}, ramp peak {peak:.0}");
+        controlled(&case, "1382.6 (5.3 %)", &open, &metered);
+        let signed = set_up.run(control(rule, LIMIT));
+        let case = format!("ramp metering and signs, {name}, ramp peak {peak:.0}");
+        controlled(&case, "1251.0 (14.3 %)", &open, &signed);
+    }
+}
+
+fn controlled(case: &str, published: &str, open: &Outcome, outcome: &Outcome) {
+    spent("000", case, published, open.time_spent, outcome.time_spent);
+    let queue = format!("{:.0}", outcome.longest_queue(RAMP as usize));
     row(
         "000",
-        &name,
-        "time spent, veh·h",
-        "1382.6",
-        &format!("{:.1}", metered.time_spent),
-    );
-    row(
-        "000",
-        &name,
-        "saving, %",
-        "5.3",
-        &saving(without, metered.time_spent),
-    );
-    let name = case("ramp metering and signs");
-    row(
-        "000",
-        &name,
-        "time spent, veh·h",
-        "1251.0",
-        &format!("{:.1}", signed.time_spent),
-    );
-    row(
-        "000",
-        &name,
-        "saving, %",
-        "14.3",
-        &saving(without, signed.time_spent),
+        case,
+        "longest queue at O2, veh",
+        "at most 100",
+        &queue,
     );
 }
 
@@ -86,14 +74,14 @@ fn uncontrolled(case: &str, open: &Outcome) {
 
 /// ALINEA with a queue of at most 100 vehicles; while the queue is full the
 /// signs show the limit, 0 for dark, with 10 % added by drivers.
-fn control(limit: u64) -> impl FnMut(&mut Live, &[u32], u64) {
+fn control(rule: Rule, limit: u64) -> impl FnMut(&mut Live, &[u32], u64) {
     let alinea = Alinea {
         target: 34,
         gain: u64::from(mv_a_step(GAIN)),
         least: 0,
         interval: 6,
     };
-    let mut ramp = Ramp::new(RAMP, alinea, 100_000);
+    let mut ramp = Ramp::new(RAMP, alinea, 100_000, rule);
     move |live, arrivals, _| {
         ramp.act(live, arrivals);
         let shown = if ramp.full() { limit } else { 0 };

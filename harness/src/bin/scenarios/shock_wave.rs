@@ -5,9 +5,10 @@
 use crate::live::Live;
 use crate::road::{network, plain, put_origin, Diagram};
 use crate::run::{Outcome, SetUp};
-use crate::table::{row, saving};
+use crate::table::{row, spent};
 
 const LAST: usize = 12;
+const TIME: &str = "time spent, veh·h";
 const SIGNED: std::ops::RangeInclusive<u64> = 6..=10;
 /// The sign that makes the wave: km/h, and until when in seconds.
 const WAVE_LIMIT: u64 = 20;
@@ -26,47 +27,32 @@ pub fn rows() {
         show_signs(live, time);
     });
     let density = format!("{:.1}", calm.density(LAST, set_up.duration));
-    row(
-        "002",
-        "no wave",
-        "density of segment 12 at the end, veh/km/lane",
-        "28",
-        &density,
-    );
-    row(
-        "002",
-        "no wave",
-        "time spent, veh·h",
-        "not given",
-        &spent(&calm),
-    );
-    row(
-        "002",
-        "wave, no control",
-        "time spent, veh·h",
-        "1835.3",
-        &spent(&wave),
-    );
-    row(
-        "002",
-        "wave, no control",
-        "speed of the wave, km/h",
-        "about 22",
-        &wave_speed(&wave),
-    );
-    row(
+    let figure = "density of segment 12 at the end, veh/km/lane";
+    row("002", "no wave", figure, "28", &density);
+    let time = format!("{:.1}", calm.time_spent);
+    row("002", "no wave", TIME, "not given", &time);
+    uncontrolled(&wave);
+    let without = wave.time_spent;
+    spent(
         "002",
         "wave, signs",
-        "time spent, veh·h",
-        "1466.7",
-        &spent(&signed),
+        "1466.7 (20.1 %)",
+        without,
+        signed.time_spent,
     );
-    let percent = saving(wave.time_spent, signed.time_spent);
-    row("002", "wave, signs", "saving, %", "20.1", &percent);
 }
 
-fn spent(outcome: &Outcome) -> String {
-    format!("{:.1}", outcome.time_spent)
+fn uncontrolled(wave: &Outcome) {
+    let put = |figure: &str, published: &str, ours: String| {
+        row("002", "wave, no control", figure, published, &ours);
+    };
+    put(TIME, "1835.3", format!("{:.1}", wave.time_spent));
+    put("speed of the wave, km/h", "about 22", wave_speed(wave));
+    for segment in [11, 8, 1] {
+        let figure = format!("highest density of segment {segment}, veh/km/lane");
+        let highest = wave.density(segment, wave.peak_time(segment));
+        put(&figure, "only drawn", format!("{highest:.1}"));
+    }
 }
 
 /// From the highest density of segment 11 to that of segment 1, 10 km on.

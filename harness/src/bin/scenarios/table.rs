@@ -10,9 +10,12 @@ pub fn row(source: &str, case: &str, figure: &str, published: &str, ours: &str) 
     println!("| {source} | {case} | {figure} | {published} | {ours} |");
 }
 
-/// By how much a time spent is below that without control, in %.
-pub fn saving(without: f64, with: f64) -> String {
-    format!("{:.1}", 100.0 * (without - with) / without)
+/// A line on time spent in veh·h, with what is saved against that without
+/// control in %.
+pub fn spent(source: &str, case: &str, published: &str, without: f64, ours: f64) {
+    let saved = 100.0 * (without - ours) / without;
+    let ours = format!("{ours:.1} ({saved:.1} %)");
+    row(source, case, "time spent, veh·h (saved)", published, &ours);
 }
 
 /// A time in minutes since the start, or that it never came.

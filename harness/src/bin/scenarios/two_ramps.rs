@@ -1,11 +1,11 @@
 //! Source document 003, section 5: 6.5 km of three lanes with an on-ramp, an
 //! off-ramp and an on-ramp, as thirteen segments of 500 m.
 
-use crate::control::Ramp;
+use crate::control::{Ramp, Rule};
 use crate::live::Live;
 use crate::road::{mv_a_step, network, plain, put_origin, Diagram};
 use crate::run::{Outcome, SetUp};
-use crate::table::{minutes, row, saving};
+use crate::table::{minutes, row, spent};
 use oracle::case::Alinea;
 
 /// Segments of the on-ramps, and the one at whose end the off-ramp is.
@@ -29,8 +29,20 @@ pub fn rows() {
     let metered = set_up.run(metering());
     let signed = set_up.run(|live, _, time| show_signs(live, time));
     uncontrolled(&open);
-    controlled("ramp metering", &open, &metered, ["1060", "9.2"]);
-    controlled("signs", &open, &signed, ["1078", "7.6"]);
+    let without = open.time_spent;
+    spent(
+        "003",
+        "ramp metering",
+        "1060 (9.2 %)",
+        without,
+        metered.time_spent,
+    );
+    for (ramp, name) in [(O1, "O1"), (O2, "O2")] {
+        let figure = format!("longest queue at {name}, veh");
+        let queue = format!("{:.1}", metered.longest_queue(ramp as usize));
+        row("003", "ramp metering", &figure, "at most 50", &queue);
+    }
+    spent("003", "signs", "1078 (7.6 %)", without, signed.time_spent);
 }
 
 fn uncontrolled(open: &Outcome) {
@@ -64,13 +76,6 @@ fn uncontrolled(open: &Outcome) {
     put("congestion at O1's merge from, min", "around 72", at);
 }
 
-fn controlled(case: &str, open: &Outcome, outcome: &Outcome, published: [&str; 2]) {
-    let spent = format!("{:.1}", outcome.time_spent);
-    row("003", case, "time spent, veh·h", published[0], &spent);
-    let percent = saving(open.time_spent, outcome.time_spent);
-    row("003", case, "saving, %", published[1], &percent);
-}
-
 /// ALINEA at both ramps with queues of at most 50 vehicles.
 fn metering() -> impl FnMut(&mut Live, &[u32], u64) {
     let alinea = Alinea {
@@ -79,7 +84,7 @@ fn metering() -> impl FnMut(&mut Live, &[u32], u64) {
         least: u64::from(mv_a_step(0.05 * RAMP_CAPACITY)),
         interval: 3,
     };
-    let mut ramps = [O1, O2].map(|segment| Ramp::new(segment, alinea, 50_000));
+    let mut ramps = [O1, O2].map(|segment| Ramp::new(segment, alinea, 50_000, Rule::First));
     move |live, arrivals, _| {
         for ramp in &mut ramps {
             ramp.act(live, arrivals);

@@ -3,6 +3,7 @@
 # make bench  engine and second implementation side by side
 # make fuzz   a long comparison on generated input
 # make memory lists of calls under valgrind
+# make scenarios published set-ups, with the published figure and ours side by side
 
 CARGO = cargo --offline
 HARNESS = harness/target/release
@@ -15,7 +16,7 @@ FUZZ = 10000000
 MEMORY = 300
 SEED = 20261115
 
-.PHONY: run test bench fuzz harness oracle-tests c-tests memory
+.PHONY: run test bench fuzz harness oracle-tests c-tests memory scenarios
 
 run:
 	rt check tallies
@@ -36,6 +37,10 @@ $(LIBRARY): $(SOURCES)
 
 harness: $(LIBRARY)
 	cd harness && $(CARGO) build --release
+
+# docs/SCENARIOS.md says what each run takes from its source and what it assumes. Not a part of the gate.
+scenarios: harness
+	$(HARNESS)/scenarios
 
 oracle-tests:
 	cd oracle && $(CARGO) test -q

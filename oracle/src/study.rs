@@ -10,7 +10,7 @@ mod calls;
 mod places;
 
 use crate::book::rows::RUNS;
-use crate::book::SLOTS;
+use crate::book::{Book, SLOTS};
 use crate::case::Case;
 use crate::file;
 use crate::network::Network;
@@ -29,6 +29,19 @@ pub struct Study {
     pub live: Case,
     /// The case of each filled slot.
     pub slots: [Option<Case>; SLOTS],
+}
+
+impl Study {
+    /// What the arrays should hold by the book.
+    pub fn of_book(book: &Book) -> Study {
+        let slot = |slot| book.slot(slot + 1).map(|line| line.case().clone());
+        Study {
+            network: book.network().clone(),
+            runs: book.runs(),
+            live: book.live().case().clone(),
+            slots: std::array::from_fn::<_, SLOTS, _>(slot),
+        }
+    }
 }
 
 /// What the arrays hold, or 12 where it is not sound.

@@ -4,7 +4,7 @@ use crate::arrays::FREE;
 use crate::lines::{random, with_call};
 use crate::networks;
 use crate::study::{book, step, COUNTS, QUEUES, ROOM, SPEEDS};
-use oracle::book::{Answer, Book, Call, CaseReport, Start, SLOTS};
+use oracle::book::{Answer, Call, CaseReport, Start};
 use oracle::file;
 use oracle::network::Network;
 use oracle::study::{self, Study};
@@ -58,17 +58,6 @@ impl Lent {
     }
 }
 
-/// What the arrays should hold by the book.
-fn of_book(book: &Book) -> Study {
-    let slot = |slot| book.slot(slot + 1).map(|line| line.case().clone());
-    Study {
-        network: book.network().clone(),
-        runs: book.runs(),
-        live: book.live().case().clone(),
-        slots: std::array::from_fn::<_, SLOTS, _>(slot),
-    }
-}
-
 /// Random calls: every answer is the book's, a refused call changes nothing,
 /// and the arrays hold what the book says.
 #[test]
@@ -84,7 +73,10 @@ fn arrays_follow_the_book() {
             answer
         });
         assert!(answer.is_ok() || lent.bits() == before);
-        assert_eq!(study::read(&lent.words, &lent.speeds), Ok(of_book(&book)));
+        assert_eq!(
+            study::read(&lent.words, &lent.speeds),
+            Ok(Study::of_book(&book))
+        );
         for case in 0..=7 {
             let report = Call::ReportCase { case };
             assert_eq!(lent.call(&report), book.call(&report));

@@ -3,6 +3,9 @@
 use crate::live::Live;
 use oracle::case::{Alinea, Setting};
 
+/// ALINEA's gain in veh/h for each veh/km/lane.
+pub const GAIN: f64 = 40.0;
+
 /// A ramp under ALINEA until its queue is full. From then on the whole demand
 /// enters, until the density of the ramp's segment is below the target; then
 /// ALINEA begins anew.

@@ -1,7 +1,7 @@
 //! Source document 000, section 4: six segments of 1 km, an on-ramp at the
 //! fifth, signs at the third and fourth.
 
-use crate::control::{Ramp, Rule};
+use crate::control::{Ramp, Rule, GAIN};
 use crate::live::Live;
 use crate::road::{mv_a_step, network, plain, put_origin, Diagram};
 use crate::run::{Outcome, SetUp};
@@ -15,8 +15,6 @@ const QUARTER: f64 = 900.0;
 const MAIN: f64 = 3500.0;
 const MAIN_LOW: f64 = 1000.0;
 const RAMP_LOW: f64 = 500.0;
-/// ALINEA's gain in veh/h for each veh/km/lane.
-const GAIN: f64 = 40.0;
 /// What the signs show, in km/h.
 const LIMIT: u64 = 50;
 

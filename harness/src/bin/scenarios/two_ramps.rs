@@ -1,7 +1,7 @@
 //! Source document 003, section 5: 6.5 km of three lanes with an on-ramp, an
 //! off-ramp and an on-ramp, as thirteen segments of 500 m.
 
-use crate::control::{Ramp, Rule};
+use crate::control::{Ramp, Rule, GAIN};
 use crate::live::Live;
 use crate::road::{mv_a_step, network, plain, put_origin, Diagram};
 use crate::run::{Outcome, SetUp};
@@ -18,8 +18,6 @@ const RAMP: f64 = 1000.0;
 /// Capacity of an on-ramp in veh/h, and of the main origin.
 const RAMP_CAPACITY: f64 = 2000.0;
 const MAIN_CAPACITY: f64 = 6390.0;
-/// ALINEA's gain in veh/h for each veh/km/lane.
-const GAIN: f64 = 40.0;
 /// Above this density in veh/km/lane we call a segment congested.
 const CONGESTED: f64 = 40.0;
 

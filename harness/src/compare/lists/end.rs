@@ -5,7 +5,7 @@ use super::List;
 use crate::calls::{Call, Function};
 use crate::compare::Difference;
 use crate::random::Random;
-use oracle::book::{Book, SLOTS};
+use oracle::book::SLOTS;
 use oracle::study::{self, Study};
 
 impl List {
@@ -15,7 +15,7 @@ impl List {
             return Err(self.both.differs("no Start was accepted"));
         };
         let (words, speeds) = self.both.lent();
-        if study::read(words, speeds) != Ok(of_book(book)) {
+        if study::read(words, speeds) != Ok(Study::of_book(book)) {
             return Err(self.both.differs("the study is not the book's"));
         }
         self.take(Call::Sound)?;
@@ -43,16 +43,5 @@ impl List {
             }
         }
         Ok(())
-    }
-}
-
-/// What the arrays should hold by the book.
-fn of_book(book: &Book) -> Study {
-    let slot = |slot| book.slot(slot + 1).map(|line| line.case().clone());
-    Study {
-        network: book.network().clone(),
-        runs: book.runs(),
-        live: book.live().case().clone(),
-        slots: std::array::from_fn::<_, SLOTS, _>(slot),
     }
 }

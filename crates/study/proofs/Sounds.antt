@@ -1,7 +1,7 @@
 -- What a sound study says.
 use Prim.Native.Nat.{ℕ, zero, suc, _+_, _≤_, _<_}
-use mathlib.Core.Path.{_≡_, refl, sym, ap, _∙_, subst}
-use mathlib.Core.Bool.{Bool, true, false, _&&_, _||_}
+use mathlib.Core.Path.{_≡_, refl, sym, ap, _∙_}
+use mathlib.Core.Bool.{true, false, _&&_, _||_}
 use mathlib.Core.List.{List}
 use native.Mathlib.Omega.{arith}
 use lib.Dec.{ltb, leb, eqb}
@@ -9,7 +9,6 @@ use lib.ListN.{length}
 use lib.Ieee.{Float}
 use native.Mathlib.Numerals.{add-one}
 use borrow.Author.Tests.{ltb-false, leb-true, eqb-true, ne-eqb}
-use Rattle.laws.specs.First.{row, first, firstOf}
 use Rattle.laws.proofs.First.{row-passed, row-later, row-skipped, first-zero-left, first-zero-right, firstOf-zero}
 use Rattle.laws.proofs.Tests.{or-left, or-right, and-left, and-right}
 use Rattle.network.specs.Words.{keptNumber}
@@ -55,10 +54,6 @@ module _ (words : List ℕ) (speeds : List Float) (s : sound words speeds ≡ tr
   slot-zero : (k : ℕ) → k < 6 → slotNumber words speeds (k + 1) ≡ 0
   unfolding casesNumber
   slot-zero k l = firstOf-zero (λ k. slotNumber words speeds (k + 1)) 6 (first-zero-right (placeNumber words speeds 0) _ (row-later _ _ _ cases)) k l
-
-  pub mark-high : (k : ℕ) → k < 6 → markAt words (k + 1) ≤ 1
-  unfolding slotNumber
-  mark-high k l = ltb-false _ _ (row-passed _ _ _ (slot-zero k l))
 
   slot-of : (k : ℕ) → 1 ≤ k → k ≤ 6 → slotNumber words speeds k ≡ 0
   slot-of zero l h = absurd (omega arith)

@@ -1,24 +1,23 @@
 -- Step: which row refuses it, and what acceptance says.
 use Prim.Native.Nat.{ℕ, _+_, _*_, _≤_, _<_}
 use mathlib.Core.Path.{_≡_, refl, sym, ap, _∙_, subst}
-use mathlib.Core.Bool.{Bool, true, false, _&&_, _||_, not}
+use mathlib.Core.Bool.{true}
 use mathlib.Core.List.{List}
 use native.Mathlib.Omega.{arith}
 use native.Mathlib.Nat.{zero-mul}
-use lib.Dec.{ltb, leb, eqb}
+use lib.Dec.{leb}
 use lib.ListN.{length, getD, set}
 use lib.Ieee.{Float}
 use borrow.Author.Tests.{le-leb, lt-leb, leb-false}
-use Rattle.laws.specs.First.{row, first, firstOf}
-use Rattle.laws.proofs.First.{row-applies, row-skipped, row-passed, first-some, first-zero, first-zero-left, first-zero-right, firstOf-ext}
-use Rattle.network.specs.declared.Segment.{Segment}
-use Rattle.network.specs.Network.{networkFrom, entryOf, segmentOf}
+use Rattle.laws.specs.First.{row, first}
+use Rattle.laws.proofs.First.{row-applies, row-skipped, row-passed, first-some, first-zero, first-zero-left, first-zero-right}
+use Rattle.network.specs.Network.{entryOf, segmentOf}
 use Rattle.network.specs.Words.{headIn, entryIn, segmentIn}
-use Rattle.network.proofs.From.{from-segment}
 use Rattle.model.specs.Words.{netOf, caseIn, stepCaseWords, stepCaseSpeeds}
 use Rattle.model.specs.Ready.{Ready, CaseAt, TotalsOk}
-use Rattle.model.specs.Sound.{arrivalNumber, stepNumber, stepNumberIn}
+use Rattle.model.specs.Sound.{stepNumber, stepNumberIn}
 use Rattle.model.proofs.SoundLaws.{case-ready, case-total}
+use Rattle.model.proofs.SameNetwork.{step-number-from}
 use Rattle.study.specs.Arrangement.{caseWord, caseSpeed, networkAt, sizeAt, runCountAt, caseAt}
 use Rattle.study.specs.Sound.{sound}
 use Rattle.study.specs.Calls.{step}
@@ -26,7 +25,7 @@ use Rattle.study.specs.Refusal.{refusal}
 use Rattle.study.specs.Perform.{lent, refusalAt, storedWords, storedSpeeds}
 use Rattle.study.proofs.Network.{size-word}
 use Rattle.study.proofs.Judging.{placed}
-use Rattle.study.proofs.Sounds.{laid, live-sound, runs-high}
+use Rattle.study.proofs.Sounds.{laid, live-sound}
 use Rattle.study.proofs.Performing.{judged}
 
 -- the live case stands first
@@ -37,16 +36,6 @@ module _ (words : List ℕ) (speeds : List Float) (ds : List ℕ) where
   abbrev net : List ℕ
   net = netOf words
 
-  -- 13, 15 and 16 look at nothing of the network but its head and the segments that are there
-  same-number : (t : ℕ) → stepNumber (networkAt words .head) (entryOf (networkAt words)) (segmentOf (networkAt words)) t ds ≡ stepNumberIn net t ds
-  unfolding networkFrom stepNumber arrivalNumber
-  same-number t =
-      λ j. row (not (eqb (length ds) (headIn net .size))) 13
-      (first
-      (firstOf-ext _ (arrivalNumber (headIn net) (entryIn net) (segmentIn net) ds) (headIn net .size)
-      (λ i l. ap (λ (s : Segment). row (ltb 1000000 (getD ds i 0) || (eqb (s .origin) 0 && ltb 0 (getD ds i 0))) 15 0) (from-segment (headIn net) (entryIn net) (segmentIn net) i l)) j)
-      (row (leb 20000 t) 16 0))
-
   abbrev pub stepsWord : ℕ
   stepsWord = getD words (2576 + 16 * sizeAt words) 0
 
@@ -55,6 +44,10 @@ module _ (words : List ℕ) (speeds : List Float) (ds : List ℕ) where
   steps-are = ap (λ (p : ℕ). getD words (p + 16 * sizeAt words) 0) (live-word (sizeAt words))
 
   module _ (s : sound words speeds ≡ true) where
+    -- 13, 15 and 16, on the network's list of segments as on its words
+    same-number : (t : ℕ) → stepNumber (networkAt words .head) (entryOf (networkAt words)) (segmentOf (networkAt words)) t ds ≡ stepNumberIn net t ds
+    same-number t = step-number-from (headIn net) (entryIn net) (segmentIn net) (λ i l. laid words speeds s .net .each i l .curve-high) t ds
+
     number-is : refusalAt (step ds) (lent words speeds) ≡ first (stepNumberIn net stepsWord ds) (row (leb 1000000 (runCountAt words)) 16 0)
     unfolding refusal
     number-is =

@@ -27,6 +27,11 @@ uint64_t network_curve_number(const uint8_t *file, size_t file_len, uint64_t cur
  * place from the third on stay. */
 uint64_t network_curve(const uint8_t *file, size_t file_len, uint64_t curve, uint64_t *place, size_t place_len);
 
+/* Where a file is wrong: place[0] becomes its number, or 0 where it is accepted; place[1] the curve (6) or the record (7, 8),
+ * place[2] the entry (6) or the broken rule of the row (4, 7; docs/REFUSALS.md lists them), both from 0; place[3] the
+ * byte offset. The answer is 24 where place_len is below 4, with place as it came, or 0. */
+uint64_t network_place(const uint8_t *file, size_t file_len, uint64_t *place, size_t place_len);
+
 /* The network kept in words (docs/ARRANGEMENT.md) as a file, from out[0] on; later bytes stay. It judges these words
  * alone, and no study around them: 11 where there are fewer than 2,560 words; 4, 6, 7 or 8 where what they keep is out
  * of range; 24 where out is shorter than the file. */

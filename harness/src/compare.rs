@@ -21,6 +21,9 @@ use crate::engine;
 use crate::random::Random;
 use oracle::file;
 
+/// A buffer too short for what is put into it.
+const BUFFER: u64 = 24;
+
 /// Where engine, oracle and expectation differ.
 pub struct Difference {
     /// The input in words, and the answers.
@@ -130,12 +133,40 @@ fn expect_number(file: &[u8], expected: u64, what: &str) -> Result<(), Differenc
     let engine = engine::check(file);
     let oracle = u64::from(file::check(file));
     if engine == expected && oracle == expected {
-        return Ok(());
+        return expect_place(file, what);
     }
     Err(Difference {
         what: format!("{what}: expected {expected}, engine {engine}, oracle {oracle}"),
         input: file.to_vec(),
     })
+}
+
+/// Both sides find the file wrong at the same place. The engine fills four of
+/// the places that it is lent, or none where there are fewer.
+fn expect_place(file: &[u8], what: &str) -> Result<(), Difference> {
+    let oracle = file::place(file);
+    let figures = [
+        usize::from(oracle.number),
+        oracle.part,
+        oracle.rule,
+        oracle.byte,
+    ];
+    for length in [3, 4, 5] {
+        let mut expected = vec![u64::MAX; length];
+        let answer = if length < 4 { BUFFER } else { 0 };
+        if answer == 0 {
+            expected[..4].copy_from_slice(&figures.map(|figure| figure as u64));
+        }
+        let mut place = vec![u64::MAX; length];
+        let engine = engine::place(file, &mut place);
+        if engine != answer || place != expected {
+            return Err(Difference {
+                what: format!("{what}: place {expected:?}, engine {engine} and {place:?}"),
+                input: file.to_vec(),
+            });
+        }
+    }
+    Ok(())
 }
 
 /// Both sides give the file the same number.

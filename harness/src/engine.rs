@@ -15,6 +15,7 @@ extern "C" {
         place: *mut u64,
         place_length: usize,
     ) -> u64;
+    fn network_place(file: *const u8, length: usize, place: *mut u64, place_length: usize) -> u64;
     fn network_write(
         words: *const u64,
         words_length: usize,
@@ -55,6 +56,13 @@ pub fn curve(file: &[u8], curve: u64, place: &mut [u64]) -> u64 {
             place.len(),
         )
     }
+}
+
+/// Where the file is wrong: number, part, rule and byte, put into the first
+/// four places.
+pub fn place(file: &[u8], place: &mut [u64]) -> u64 {
+    // SAFETY: as above.
+    unsafe { network_place(file.as_ptr(), file.len(), place.as_mut_ptr(), place.len()) }
 }
 
 /// The stored network written as a file into `out`.

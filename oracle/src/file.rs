@@ -1,5 +1,6 @@
 //! The network file: refusing, reading and writing it.
 
+mod place;
 mod read;
 mod write;
 
@@ -8,6 +9,7 @@ use crate::refusal::NO_CURVE;
 use read::judge;
 
 pub use crate::network::{Curve, Network, Segment};
+pub use place::{place, Place};
 pub use write::write;
 
 /// The mark that begins every file.

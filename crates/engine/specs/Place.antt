@@ -1,11 +1,12 @@
--- Where a curve stands in its file, as C is told: byte offset and length, put into two lent words.
+-- Where a curve stands in its file, as C is told: byte offset and length, put into two lent words. And where a file is wrong.
 use Prim.Native.Nat.{ℕ}
-use mathlib.Core.List.{List}
+use mathlib.Core.List.{List, [], _∷_}
 use lib.Dec.{ltb}
 use lib.ListN.{length, set}
 use Rattle.laws.specs.First.{row, first, ifAccepted}
 use Rattle.network.specs.File.{curveStart}
 use Rattle.network.specs.Curve.{curveCallNumber}
+use Rattle.places.specs.Place.{placeOf}
 
 -- the number of the curve call, then 24 where two words are not lent
 unfoldable pub placeNumber : List ℕ → ℕ → List ℕ → ℕ
@@ -14,3 +15,7 @@ placeNumber b k place = first (curveCallNumber b k) (row (ltb (length place) 2) 
 -- a refused call leaves the words as they came; later words stay
 unfoldable pub placeWords : List ℕ → ℕ → List ℕ → List ℕ
 placeWords b k place = ifAccepted (placeNumber b k place) (set (set place 0 (curveStart k)) 1 804) place
+
+-- what C is told of a file's place: the number that refuses it, or 0, the part, the rule and the byte offset
+abbrev pub placeFigures : List ℕ → List ℕ
+placeFigures b = let p = placeOf b in p .number ∷ p .part ∷ p .rule ∷ p .offset ∷ []

@@ -9,8 +9,8 @@ ghost use Rattle.model.specs.Sound.{singleNumber, singleWords, singleSpeeds};
 ghost use Rattle.study.specs.declared.Setting.the-variants.{Open, Fixed, Alinea};
 ghost use Rattle.study.specs.Calls.{start, sign, meter, step, hold, recall, dropSlot, report, reportSegment, reportRuns, verdictSays};
 ghost use Rattle.study.specs.Write.{writtenBytes, writeAnswer, writtenSays};
-ghost use Rattle.engine.specs.Place.{placeNumber, placeWords};
-ghost use Rattle.engine.specs.Study.{soundness, numberOf, Called, Reported};
+ghost use Rattle.engine.specs.Place.{placeNumber, placeWords, placeFigures};
+ghost use Rattle.engine.specs.Study.{soundness, numberOf, putNumber, putFigures, Called, Reported};
 
 // The number that refuses a network file, and 0 where it is accepted.
 #[no_mangle]
@@ -45,6 +45,18 @@ pub extern "C" fn network_curve(file: &[u8], k: u64, place: &mut [u64]) -> u64
     place[0] = 16 + 804 * k;
     place[1] = 804;
     0
+}
+
+// Where a file is wrong, as the crate `places` says it: the number that refuses it, or 0, then part, rule and byte offset, into
+// place[0] to place[3]. Gives 24 where fewer than four words are lent, with the words as they came, or 0.
+#[no_mangle]
+pub extern "C" fn network_place(file: &[u8], place: &mut [u64]) -> u64
+    ensures { λ r. ⌜ r ≡ putNumber (placeFigures (now (file .entry))) (now (place .entry)) ⌝ }
+    ensures { λ _. ⌜ now (place .exit) ≡ putFigures (placeFigures (now (file .entry))) (now (place .entry)) ⌝ }
+{
+    let p = places::place_of(file);
+    let four = [p.number, p.part as u64, p.rule, p.offset];
+    report::put_figures(&four, place)
 }
 
 // Writes the network kept in these words as a file from the buffer's first byte on; later bytes stay. Gives the number that refuses

@@ -19,7 +19,7 @@ fn copy(src: &[u64], out: &mut [u64])
 }
 
 // 24 where out is shorter than the figures, with out as it came, or 0.
-fn put_figures(figures: &[u64], out: &mut [u64]) -> u64
+pub(crate) fn put_figures(figures: &[u64], out: &mut [u64]) -> u64
     ensures { λ r. ⌜ r ≡ putNumber (now (figures .entry)) (now (out .entry)) ⌝ }
     ensures { λ _. ⌜ now (out .exit) ≡ putFigures (now (figures .entry)) (now (out .entry)) ⌝ }
 {

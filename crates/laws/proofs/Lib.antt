@@ -1,5 +1,6 @@
 pub mod Tests
 pub mod First
+pub mod Search
 pub mod Lists
 pub mod Puts
 pub mod Outside

@@ -32,17 +32,19 @@ abbrev pub segmentOf : Network → ℕ → Segment
 segmentOf w i = getD (w .segments) i noSegment
 
 -- ---- 4: T 1..60; n 1..40; c 1..8; τ 1..120; ν 0..200; κ 1..200; δ 0..1000
-unfoldable pub headBad : Head → Bool
-headBad h =
-    anyOf
-    (outside 1 (h .step) 60
+abbrev pub headTests : Head → List Bool
+headTests h =
+    outside 1 (h .step) 60
     ∷ outside 1 (h .size) 40
     ∷ outside 1 (h .curves) 8
     ∷ outside 1 (h .tau) 120
     ∷ ltb 200 (h .nu)
     ∷ outside 1 (h .kappa) 200
     ∷ ltb 1000 (h .delta)
-    ∷ [])
+    ∷ []
+
+unfoldable pub headBad : Head → Bool
+headBad h = anyOf (headTests h)
 
 -- ---- 6: 1,000 ≤ e0 ≤ 200,000, none above the one before. A curve is given by its entries e 0 .. e 200
 
@@ -55,10 +57,9 @@ curveNumber e = row (outside 1000 (e 0) 200000) 6 (firstOf (rising e) 200)
 
 -- ---- 7: L 100..2000; H 1..8; curve 0..c−1; C 1..J−1; J 2..200; origin 0 or 1, 1 at segment 1;
 -- X 0..1000, 0 at segment n; Q 1..300,000 with an origin, else 0. Segment i is counted from 0
-unfoldable pub segmentBad : Head → ℕ → Segment → Bool
-segmentBad h i s =
-    anyOf
-    (outside 100 (s .metres) 2000
+abbrev pub segmentTests : Head → ℕ → Segment → List Bool
+segmentTests h i s =
+    outside 100 (s .metres) 2000
     ∷ outside 1 (s .lanes) 8
     ∷ leb (h .curves) (s .curve)
     ∷ ltb (s .critical) 1
@@ -70,7 +71,10 @@ segmentBad h i s =
     ∷ (eqb (i + 1) (h .size) && ltb 0 (s .exit))
     ∷ (eqb (s .origin) 0 && ltb 0 (s .most))
     ∷ (eqb (s .origin) 1 && outside 1 (s .most) 300000)
-    ∷ [])
+    ∷ []
+
+unfoldable pub segmentBad : Head → ℕ → Segment → Bool
+segmentBad h i s = anyOf (segmentTests h i s)
 
 -- ---- 8: F × T > 3600 × L, F being the first entry of the segment's curve
 abbrev pub tooFast : Head → ℕ → Segment → Bool

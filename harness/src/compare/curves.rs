@@ -1,6 +1,6 @@
 //! The two curve calls: number, place of the curve, and what stays.
 
-use super::Difference;
+use super::{Difference, BUFFER};
 use crate::damages::{in_turn, FILE};
 use crate::draft::{Draft, CURVE, HEAD};
 use crate::engine;
@@ -10,8 +10,6 @@ use oracle::file;
 
 /// Curve numbers to ask for beside 0..=9: ends of number widths.
 const FAR: [u64; 6] = [255, 256, 1 << 32, (1 << 32) + 1, 1 << 63, u64::MAX];
-/// A buffer too short for the two figures.
-const BUFFER: u64 = 24;
 
 /// Two files in three are valid, the third is damaged.
 pub fn one(random: &mut Random, index: u64) -> Result<(), Difference> {

@@ -1,0 +1,52 @@
+// The fields of the head, by the rules of row 4.
+use crate::print;
+
+fn name(rule: u64) {
+    match rule {
+        0 => print::say(b"step T"),
+        1 => print::say(b"number of segments n"),
+        2 => print::say(b"number of curves c"),
+        3 => print::say(b"tau"),
+        4 => print::say(b"nu"),
+        5 => print::say(b"kappa"),
+        6 => print::say(b"delta"),
+        _ => print::say(b"a byte that must be zero"),
+    }
+}
+
+fn right(rule: u64) {
+    match rule {
+        0 => print::say(b"1 to 60"),
+        1 => print::say(b"1 to 40"),
+        2 => print::say(b"1 to 8"),
+        3 => print::say(b"1 to 120"),
+        4 => print::say(b"0 to 200"),
+        5 => print::say(b"1 to 200"),
+        6 => print::say(b"0 to 1000"),
+        _ => print::say(b"0"),
+    }
+}
+
+fn value(file: &[u8], rule: u64) -> u64 {
+    let h = network::head_of(file);
+    match rule {
+        0 => h.step,
+        1 => h.size,
+        2 => h.curves,
+        3 => h.tau,
+        4 => h.nu,
+        5 => h.kappa,
+        6 => h.delta,
+        7 => network::byte_of(file, 11),
+        8 => network::byte_of(file, 14),
+        _ => network::byte_of(file, 15),
+    }
+}
+
+// The field, its value and what it must be.
+pub(crate) fn tell(file: &[u8], rule: u64) {
+    print::say(b"head, ");
+    name(rule);
+    print::told(b": ", value(file, rule), b", must be ");
+    right(rule);
+}

@@ -1,0 +1,25 @@
+use Prim.Native.Nat.{ℕ, _/_}
+use mathlib.Core.Path.{sym, ap, _∙_}
+use native.Mathlib.Omega.{arith}
+use borrow.Author.Tests.{ne-eqb, lt-ltb, le-ltb}
+use Rattle.laws.specs.First.{row}
+use Rattle.laws.proofs.First.{row-applies, row-skipped}
+use Rattle.places.specs.Place.{partOf}
+use borrow.Author.Needs.{needs}
+use Rattle.places.proofs.offsets.part.Statement.{statement}
+use Rattle.places.proofs.offsets.part.Tie as tie
+
+returns : tie.Need-returns
+unfolding partOf row
+returns c = let e = c .bad-entry .ensures in (rw (c .before .if1 .taken) (ap (λ (m : ℕ). m / 201) (e .0)), omega (arith, e .1))
+
+returns-2 : tie.Need-returns-2
+unfolding partOf
+returns-2 c = let e = c .bad-record .ensures in (e .0 ∙ sym (row-skipped _ _ _ (ne-eqb _ _ (c .before .before .if1 .left)) ∙ row-applies _ _ _ (lt-ltb _ _ (c .before .if2 .taken))), e .1)
+
+returns-3 : tie.Need-returns-3
+unfolding partOf
+returns-3 c = (sym (row-skipped _ _ _ (ne-eqb _ _ (c .before .if1 .left)) ∙ row-skipped _ _ _ (le-ltb _ _ (c .if2 .left))), omega arith)
+
+pub part-spec : {M : Type 1} → statement M
+part-spec = tie.close (tie.spec (λ c κs. search needs) returns (λ c κs. search needs) returns-2 returns-3)

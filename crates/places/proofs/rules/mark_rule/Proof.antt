@@ -1,0 +1,17 @@
+use borrow.Author.Needs.{needs}
+use Rattle.places.proofs.rules.mark_rule.Statement.{statement}
+use Rattle.places.proofs.rules.mark_rule.Tie as tie
+
+returns : tie.Need-returns
+returns c = cc
+
+pub mark-rule-spec : {M : Type 1} → statement M
+mark-rule-spec =
+    tie.close
+    (tie.spec
+    (λ c κs. search needs)
+    (λ c κs. search needs)
+    (λ c κs. search needs)
+    (λ c. search needs)
+    (λ c κs. search needs)
+    returns)

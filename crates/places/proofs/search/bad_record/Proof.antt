@@ -1,0 +1,47 @@
+-- A search of the records that are left finds the same.
+use Prim.Native.Nat.{_-_}
+use native.Mathlib.Omega.{arith}
+use lib.Dec.{ltb}
+use borrow.Author.Needs.{needs}
+use borrow.Author.Tests.{lt-ltb, le-ltb}
+use Rattle.laws.proofs.Search.{Searching, search-begun, search-found, search-passed, search-end}
+use Rattle.network.specs.File.{recordCallNumber}
+use Rattle.places.specs.Place.{badRecord}
+use Rattle.places.proofs.search.bad_record.Statement.{statement}
+use Rattle.places.proofs.search.bad_record.Tie as tie
+
+abbrev Inv-loop : tie.InvT-loop
+Inv-loop file i₀ i = Searching (λ j. ltb 0 (recordCallNumber file j)) 40 i
+
+abbrev μ-loop : tie.MeasureT-loop
+μ-loop file i₀ i = 40 - i
+
+returns : tie.Need-returns Inv-loop μ-loop
+unfolding badRecord
+returns c =
+    let l = c .before .before .before .loop in
+    let more = c .before .before .loop-test .taken in
+    (search-found _ (l .inv) more (lt-ltb _ _ (rw (c .before .record-number .ensures) at (c .if1 .taken))), omega (arith, more))
+
+loop-again : tie.Need-loop-again Inv-loop μ-loop
+loop-again c =
+    let l = c .before .before .before .loop in
+    search-passed _ (l .inv) (c .before .before .loop-test .taken) (le-ltb _ _ (rw (c .before .record-number .ensures) at (c .if1 .left)))
+
+returns-2 : tie.Need-returns-2 Inv-loop μ-loop
+unfolding badRecord
+returns-2 c = let s = c .before .loop .inv in (search-end _ s (c .loop-test .left), omega (arith, s .sum))
+
+pub bad-record-spec : {M : Type 1} → statement M
+bad-record-spec =
+    tie.close
+    (tie.spec
+    Inv-loop
+    μ-loop
+    (λ c. search-begun _ _)
+    (λ c κs. search needs)
+    returns
+    (λ c. search needs)
+    (λ c. search needs)
+    loop-again
+    returns-2)

@@ -1,0 +1,130 @@
+// The rules of rows 2, 4 and 7, one by one, in the order of their definitions.
+use crate::search;
+ghost use mathlib.Core.Path.{_≡_};
+ghost use Prim.Native.Nat.{_<_, _≤_};
+ghost use mathlib.Core.List.{[], _∷_, _++_};
+ghost use lib.Dec.{ltb};
+ghost use lib.ListN.{getD};
+ghost use Rattle.laws.specs.Search.{firstHeld};
+ghost use Rattle.network.specs.Network.{headTests, segmentTests};
+ghost use Rattle.network.specs.File.{headOf, recordStart};
+ghost use Rattle.places.specs.Place.{markRules, headRules, headFields, recordRules, recordFields};
+
+// The first byte that is not the mark's, "FWN".
+pub(crate) fn mark_rule(file: &[u8]) -> u64
+    ensures { λ r. ⌜ r ≡ firstHeld (markRules (now (file .entry))) ⌝ }
+{
+    let rules = [
+        network::byte_of(file, 0) != 70,
+        network::byte_of(file, 1) != 87,
+        network::byte_of(file, 2) != 78,
+    ];
+    search::first_held(&rules)
+}
+
+// Whether each rule of the head is broken, with the bytes 11, 14 and 15.
+fn head_rules(h: network::Head, z11: u64, z14: u64, z15: u64) -> [bool; 10]
+    ensures { λ r. ⌜ r ≡ headTests h ++ (ltb 0 z11 ∷ ltb 0 z14 ∷ ltb 0 z15 ∷ []) ⌝ }
+{
+    [
+        search::outside(1, h.step, 60),
+        search::outside(1, h.size, 40),
+        search::outside(1, h.curves, 8),
+        search::outside(1, h.tau, 120),
+        200 < h.nu,
+        search::outside(1, h.kappa, 200),
+        1000 < h.delta,
+        0 < z11,
+        0 < z14,
+        0 < z15,
+    ]
+}
+
+// The first rule of the head that is broken.
+pub(crate) fn head_rule(file: &[u8]) -> u64
+    ensures { λ r. ⌜ r ≡ firstHeld (headRules (now (file .entry))) ⌝ }
+{
+    let h = network::head_of(file);
+    let z11 = network::byte_of(file, 11);
+    let z14 = network::byte_of(file, 14);
+    let z15 = network::byte_of(file, 15);
+    let rules = head_rules(h, z11, z14, z15);
+    search::first_held(&rules)
+}
+
+// The byte of the head that a rule is about.
+pub(crate) fn head_field(rule: u64) -> u8
+    ensures { λ r. ⌜ r ≡ getD headFields rule 0 ⌝ }
+{
+    let fields = [5, 6, 7, 8, 9, 10, 12, 11, 14, 15];
+    if rule < 10 {
+        return fields[rule as usize];
+    }
+    0
+}
+
+// Where record i begins, if the head is right.
+pub(crate) fn record_start(file: &[u8], i: u32) -> u64
+    requires { ⌜ i ≤ 40 ⌝ }
+    ensures { λ r. ⌜ (r ≡ recordStart (headOf (now (file .entry))) i) × (r < 300000) ⌝ }
+{
+    16 + 804 * network::byte_of(file, 7) + 16 * (i as u64)
+}
+
+// Whether each rule of record i is broken, with its bytes 7, 14 and 15.
+fn record_rules(
+    h: network::Head,
+    i: u64,
+    s: network::Segment,
+    z7: u64,
+    z14: u64,
+    z15: u64,
+) -> [bool; 15]
+    requires { ⌜ i ≤ 40 ⌝ }
+    ensures { λ r. ⌜ r ≡ segmentTests h i s ++ (ltb 0 z7 ∷ ltb 0 z14 ∷ ltb 0 z15 ∷ []) ⌝ }
+{
+    let next = i + 1;
+    [
+        search::outside(100, s.metres, 2000),
+        search::outside(1, s.lanes, 8),
+        h.curves <= s.curve,
+        s.critical < 1,
+        s.jam <= s.critical,
+        search::outside(2, s.jam, 200),
+        1 < s.origin,
+        (i == 0) & (s.origin == 0),
+        1000 < s.exit,
+        (next == h.size) & (0 < s.exit),
+        (s.origin == 0) & (0 < s.most),
+        (s.origin == 1) & search::outside(1, s.most, 300000),
+        0 < z7,
+        0 < z14,
+        0 < z15,
+    ]
+}
+
+// The first rule of record i that is broken.
+pub(crate) fn record_rule(file: &[u8], i: u32) -> u64
+    requires { ⌜ i ≤ 40 ⌝ }
+    ensures { λ r. ⌜ r ≡ firstHeld (recordRules (now (file .entry)) i) ⌝ }
+{
+    let at = record_start(file, i) as u32;
+    let z7 = network::byte_of(file, at + 7);
+    let z14 = network::byte_of(file, at + 14);
+    let z15 = network::byte_of(file, at + 15);
+    let h = network::head_of(file);
+    let s = network::segment_of(file, i);
+    let rules = record_rules(h, i as u64, s, z7, z14, z15);
+    search::first_held(&rules)
+}
+
+// The byte of a record that a rule is about.
+pub(crate) fn record_field(rule: u64) -> u8
+    ensures { λ r. ⌜ r ≡ getD recordFields rule 0 ⌝ }
+{
+    let fields = [0, 2, 3, 4, 4, 5, 6, 6, 8, 8, 10, 10, 7, 14, 15];
+    if rule < 15 {
+        return fields[rule as usize];
+    }
+    0
+}

@@ -11,7 +11,7 @@ ghost use Rattle.network.specs.Network.{segmentBad, tooFast};
 ghost use Rattle.network.specs.File.{segmentAt, recordPadding, recordNumber};
 ghost use Rattle.network.specs.Accepted.{Sized};
 
-pub(crate) fn read_segment(file: &[u8], at: usize) -> Segment
+fn read_fields(file: &[u8], at: usize) -> Segment
     requires { ⌜ at < 100000000000 ⌝ }
     ensures { λ r. ⌜ r ≡ segmentAt (now (file .entry)) at ⌝ }
 {
@@ -25,6 +25,17 @@ pub(crate) fn read_segment(file: &[u8], at: usize) -> Segment
         exit: number::u16_at(file, at + 8),
         most: number::u32_at(file, at + 10),
     }
+}
+
+// One test where all 16 bytes are there: in a part of 16 bytes no byte needs another.
+pub(crate) fn read_segment(file: &[u8], at: usize) -> Segment
+    requires { ⌜ at < 100000000000 ⌝ }
+    ensures { λ r. ⌜ r ≡ segmentAt (now (file .entry)) at ⌝ }
+{
+    if at + 16 <= file.len() {
+        return read_fields(&file[at..at + 16], 0);
+    }
+    read_fields(file, at)
 }
 
 // Row 7, of the bytes that are zero.

@@ -11,7 +11,7 @@ use Rattle.network.specs.Network.{segmentBad, tooFast}
 use Rattle.network.specs.File.{recordNumber, recordPadding, recordStart, segmentAt, entryAt, curveStart}
 use Rattle.network.specs.Accepted.{SegmentWithin}
 use Rattle.network.proofs.Rows.{segment-within, field-refused, speed-refused, speed-passed}
-use Rattle.network.proofs.File.{segment-part, padding-part}
+use Rattle.network.proofs.File.{segment-lent, padding-part}
 use borrow.Author.Needs.{needs}
 use Rattle.network.proofs.records.record_row.Statement.{statement}
 use Rattle.network.proofs.records.record_row.Tie as tie
@@ -23,8 +23,7 @@ read :
     c .read-segment .result ≡ segmentAt (now (a .file)) (recordStart (a .h) (a .i))
 read c =
     let a = c .before .before .before .args in
-    let at = recordStart (a .h) (a .i) in
-    c .read-segment .ensures ∙ ap (λ (k : ℕ). segmentAt (part at k (now (a .file))) 0) (span at 16) ∙ sym (segment-part (now (a .file)) at)
+    c .read-segment .ensures ∙ segment-lent (now (a .file)) (recordStart (a .h) (a .i))
 
 -- the value of row 7's test
 fields :

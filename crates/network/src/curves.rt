@@ -15,9 +15,9 @@ pub(crate) fn entry(file: &[u8], at: usize, j: usize) -> u64
     number::u32_in(file, at + 4 * j)
 }
 
-// Row 6, of the eight entries after entry j, which is a: each entry is read once.
-fn eight_row(file: &[u8], at: usize, j: usize, a: u64) -> u64
-    requires { ⌜ (at + 4 * j + 36 ≤ length (now file)) × (a ≡ entryAt (now file) at j) ⌝ }
+// Row 6, of the eight entries after entry j, which is a; the last of them is i. So each entry of a curve is read once.
+fn eight_row(file: &[u8], at: usize, j: usize, a: u64, i: u64) -> u64
+    requires { ⌜ (at + 4 * j + 36 ≤ length (now file)) × (a ≡ entryAt (now file) at j) × (i ≡ entryAt (now file) at (j + 8)) ⌝ }
     ensures { λ r. ⌜ r ≡ firstOf (λ i. rising (entryAt (now (file .entry)) at) (j + i)) 8 ⌝ }
 {
     number::eight_rising(
@@ -29,7 +29,7 @@ fn eight_row(file: &[u8], at: usize, j: usize, a: u64) -> u64
         entry(file, at, j + 5),
         entry(file, at, j + 6),
         entry(file, at, j + 7),
-        entry(file, at, j + 8),
+        i,
     )
 }
 
@@ -43,12 +43,13 @@ fn curve_row(file: &[u8], at: usize) -> u64
     }
     let mut k = 0;
     while k < 25 {
-        let r = eight_row(file, at, 8 * k, last);
+        let next = entry(file, at, 8 * k + 8);
+        let r = eight_row(file, at, 8 * k, last, next);
         if r != 0 {
             return r;
         }
+        last = next;
         k += 1;
-        last = entry(file, at, 8 * k);
     }
     0
 }

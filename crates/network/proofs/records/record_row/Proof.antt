@@ -18,12 +18,12 @@ use Rattle.network.proofs.records.record_row.Tie as tie
 
 -- s, which was read in the record's part, is what stands in the file
 read :
-    (c : tie.After-read-segment) →
+    (c : tie.After-read-fields) →
     let a = c .before .before .before .args in
-    c .read-segment .result ≡ segmentAt (now (a .file)) (recordStart (a .h) (a .i))
+    c .read-fields .result ≡ segmentAt (now (a .file)) (recordStart (a .h) (a .i))
 read c =
     let a = c .before .before .before .args in
-    c .read-segment .ensures ∙ segment-lent (now (a .file)) (recordStart (a .h) (a .i))
+    c .read-fields .ensures ∙ segment-lent (now (a .file)) (recordStart (a .h) (a .i))
 
 -- the value of row 7's test
 fields :
@@ -40,7 +40,7 @@ fields c =
 within :
     (c : tie.Else1) →
     let a = c .before .before .before .before .before .before .args in
-    SegmentWithin (a .h) (a .i) (c .before .before .before .read-segment .result)
+    SegmentWithin (a .h) (a .i) (c .before .before .before .read-fields .result)
 within c =
     segment-within _ _ _ (sym (c .before .before .segment-bad .ensures) ∙ or-left _ (c .before .record-padding .result) (c .if1 .left))
 

@@ -1,5 +1,5 @@
 -- What acceptance says of a file, and which part of the file refuses it.
-use Prim.Native.Nat.{ℕ, _≤_, _<_}
+use Prim.Native.Nat.{ℕ, _+_, _-_, _≤_, _<_}
 use mathlib.Core.Bool.{true, false, _||_}
 use mathlib.Core.List.{List}
 use mathlib.Core.Path.{_≡_, sym, ap, _∙_}
@@ -10,7 +10,7 @@ use lib.ListN.{length}
 use borrow.Author.Tests.{ltb-false, eqb-true, not-false}
 use Rattle.laws.specs.Lists.{part}
 use Rattle.laws.specs.BigEndian.{u16At}
-use Rattle.laws.proofs.Lists.{part-at}
+use Rattle.laws.proofs.Lists.{part-at, span}
 use Rattle.laws.proofs.BigEndian.{part-u16, part-u32}
 use Rattle.laws.proofs.Tests.{or-left, or-right}
 use Rattle.laws.proofs.First.{row-passed, row-later, row-skipped, first-some, first-zero, first-zero-left, first-zero-right, firstOf-zero, firstOf-all}
@@ -62,6 +62,10 @@ module _ (b : List ℕ) (at : ℕ) where
     exit = part-u16 b at 16 8 (omega arith) j;
     most = part-u32 b at 16 10 (omega arith) j;
   })
+
+  -- the code computes the 16 as at + 16 - at
+  pub segment-lent : segmentAt (part at (at + 16 - at) b) 0 ≡ segmentAt b at
+  segment-lent = ap (λ (k : ℕ). segmentAt (part at k b) 0) (span at 16) ∙ sym segment-part
 
   pub padding-part : recordPadding b at ≡ recordPadding (part at 16 b) 0
   padding-part = sym (λ j. ltb 0 (part-at b at 16 7 0 (omega arith) j) || ltb 0 (part-u16 b at 16 14 (omega arith) j))

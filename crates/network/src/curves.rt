@@ -15,13 +15,13 @@ pub(crate) fn entry(file: &[u8], at: usize, j: usize) -> u64
     number::u32_in(file, at + 4 * j)
 }
 
-// Row 6, of the eight entries after entry j.
-fn eight_row(file: &[u8], at: usize, j: usize) -> u64
-    requires { ⌜ at + 4 * j + 36 ≤ length (now file) ⌝ }
+// Row 6, of the eight entries after entry j, which is a; the last of them is i. So each entry of a curve is read once.
+fn eight_row(file: &[u8], at: usize, j: usize, a: u64, i: u64) -> u64
+    requires { ⌜ (at + 4 * j + 36 ≤ length (now file)) × (a ≡ entryAt (now file) at j) × (i ≡ entryAt (now file) at (j + 8)) ⌝ }
     ensures { λ r. ⌜ r ≡ firstOf (λ i. rising (entryAt (now (file .entry)) at) (j + i)) 8 ⌝ }
 {
     number::eight_rising(
-        entry(file, at, j),
+        a,
         entry(file, at, j + 1),
         entry(file, at, j + 2),
         entry(file, at, j + 3),
@@ -29,7 +29,7 @@ fn eight_row(file: &[u8], at: usize, j: usize) -> u64
         entry(file, at, j + 5),
         entry(file, at, j + 6),
         entry(file, at, j + 7),
-        entry(file, at, j + 8),
+        i,
     )
 }
 
@@ -37,15 +37,18 @@ fn curve_row(file: &[u8], at: usize) -> u64
     requires { ⌜ at + 804 ≤ length (now file) ⌝ }
     ensures { λ r. ⌜ r ≡ curveNumber (entryAt (now (file .entry)) at) ⌝ }
 {
-    if number::outside(1000, entry(file, at, 0), 200000) {
+    let mut last = entry(file, at, 0);
+    if number::outside(1000, last, 200000) {
         return 6;
     }
     let mut k = 0;
     while k < 25 {
-        let r = eight_row(file, at, 8 * k);
+        let next = entry(file, at, 8 * k + 8);
+        let r = eight_row(file, at, 8 * k, last, next);
         if r != 0 {
             return r;
         }
+        last = next;
         k += 1;
     }
     0

@@ -28,22 +28,26 @@ pub(crate) fn u16_at(b: &[u8], i: usize) -> u64
     byte_at(b, i) * 256 + byte_at(b, i + 1)
 }
 
-pub(crate) fn u32_at(b: &[u8], i: usize) -> u64
-    requires { ⌜ i < 10000000000000 ⌝ }
-    ensures { λ r. ⌜ (r ≡ u32At (now (b .entry)) i) × (r < 4294967296) ⌝ }
-{
-    byte_at(b, i) * 16777216
-        + byte_at(b, i + 1) * 65536
-        + byte_at(b, i + 2) * 256
-        + byte_at(b, i + 3)
-}
-
 // As u32_at, without a test of the length: the curves' loop reads thousands.
 pub(crate) fn u32_in(b: &[u8], i: usize) -> u64
     requires { ⌜ i + 4 ≤ length (now b) ⌝ }
     ensures { λ r. ⌜ (r ≡ u32At (now (b .entry)) i) × (r < 4294967296) ⌝ }
 {
     wide(b[i]) * 16777216 + wide(b[i + 1]) * 65536 + wide(b[i + 2]) * 256 + wide(b[i + 3])
+}
+
+// One test where all four bytes are there, for Start reads thousands.
+pub(crate) fn u32_at(b: &[u8], i: usize) -> u64
+    requires { ⌜ i < 10000000000000 ⌝ }
+    ensures { λ r. ⌜ (r ≡ u32At (now (b .entry)) i) × (r < 4294967296) ⌝ }
+{
+    if i + 4 <= b.len() {
+        return u32_in(b, i);
+    }
+    byte_at(b, i) * 16777216
+        + byte_at(b, i + 1) * 65536
+        + byte_at(b, i + 2) * 256
+        + byte_at(b, i + 3)
 }
 
 // Word i of a list; past the end a word reads as 0.

@@ -11,20 +11,19 @@ use Rattle.network.specs.Network.{segmentBad, tooFast}
 use Rattle.network.specs.File.{recordNumber, recordPadding, recordStart, segmentAt, entryAt, curveStart}
 use Rattle.network.specs.Accepted.{SegmentWithin}
 use Rattle.network.proofs.Rows.{segment-within, field-refused, speed-refused, speed-passed}
-use Rattle.network.proofs.File.{segment-part, padding-part}
+use Rattle.network.proofs.File.{segment-lent, padding-part}
 use borrow.Author.Needs.{needs}
 use Rattle.network.proofs.records.record_row.Statement.{statement}
 use Rattle.network.proofs.records.record_row.Tie as tie
 
 -- s, which was read in the record's part, is what stands in the file
 read :
-    (c : tie.After-read-segment) →
+    (c : tie.After-read-fields) →
     let a = c .before .before .before .args in
-    c .read-segment .result ≡ segmentAt (now (a .file)) (recordStart (a .h) (a .i))
+    c .read-fields .result ≡ segmentAt (now (a .file)) (recordStart (a .h) (a .i))
 read c =
     let a = c .before .before .before .args in
-    let at = recordStart (a .h) (a .i) in
-    c .read-segment .ensures ∙ ap (λ (k : ℕ). segmentAt (part at k (now (a .file))) 0) (span at 16) ∙ sym (segment-part (now (a .file)) at)
+    c .read-fields .ensures ∙ segment-lent (now (a .file)) (recordStart (a .h) (a .i))
 
 -- the value of row 7's test
 fields :
@@ -41,7 +40,7 @@ fields c =
 within :
     (c : tie.Else1) →
     let a = c .before .before .before .before .before .before .args in
-    SegmentWithin (a .h) (a .i) (c .before .before .before .read-segment .result)
+    SegmentWithin (a .h) (a .i) (c .before .before .before .read-fields .result)
 within c =
     segment-within _ _ _ (sym (c .before .before .segment-bad .ensures) ∙ or-left _ (c .before .record-padding .result) (c .if1 .left))
 

@@ -16,7 +16,7 @@ FUZZ = 10000000
 MEMORY = 300
 SEED = 20261115
 
-.PHONY: run test bench fuzz harness oracle-tests c-tests memory scenarios
+.PHONY: run test bench fuzz harness oracle-tests c-tests inspect-tests memory scenarios
 
 run:
 	rt check tallies
@@ -51,6 +51,10 @@ c-tests: target/c/tallies
 target/c/tallies: tests/c/tallies.c include/engine.h $(LIBRARY)
 	mkdir -p target/c
 	gcc $(CFLAGS) -Iinclude $< $(LIBRARY) -o $@
+
+# The program must be there: rt check inspect, or the gate's first part, makes it.
+inspect-tests:
+	tests/inspect/run target/bin/inspect
 
 # In every second list the arrays end where what is lent ends, so that valgrind sees any touch past it.
 memory: harness target/c/tallies

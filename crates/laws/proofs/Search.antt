@@ -3,11 +3,17 @@ use Prim.Native.Nat.{ℕ, zero, suc, _+_, _<_, _≤_}
 use mathlib.Core.Bool.{Bool, true, false}
 use mathlib.Core.Path.{_≡_, refl, sym, ap, _∙_}
 use mathlib.Core.Logic.{⊎-elim}
+use mathlib.Core.List.{List}
 use native.Mathlib.Omega.{arith}
 use native.Mathlib.Nat.{eq-or-lt-of-le, add-zero, add-suc}
 use native.Mathlib.Numerals.{add-one}
-use Rattle.laws.specs.Search.{firstFrom, firstWhere}
+use lib.Dec.{ltb}
+use lib.ListN.{length, getD, List·getD-eq-default}
+use borrow.Author.Tests.{ltb-true, ltb-false}
+use Rattle.laws.specs.First.{anyOf}
+use Rattle.laws.specs.Search.{firstFrom, firstWhere, firstHeld}
 use Rattle.laws.proofs.First.{row-applies, row-skipped}
+use Rattle.laws.proofs.Tests.{anyOf-none}
 
 module _ (test : ℕ → Bool) where
   -- r is the first of the k numbers from i on: none before it, and r itself unless it is their end
@@ -51,6 +57,14 @@ module _ (test : ℕ → Bool) where
   unfolding firstWhere
   where-found n = from-found 0 n
 
+  -- where the test does not fail at all numbers below n, it holds at the one that is found
+  pub where-some : (n : ℕ) → (((j : ℕ) → j < n → test j ≡ false) → ⊥) → (firstWhere test n < n) × (test (firstWhere test n) ≡ true)
+  where-some n some = go (ltb (firstWhere test n) n) refl (where-found n)
+    where
+      go : (t : Bool) → ltb (firstWhere test n) n ≡ t → Found 0 n (firstWhere test n) → (firstWhere test n < n) × (test (firstWhere test n) ≡ true)
+      go true e f = let l = ltb-true _ _ e in (l, f .holds (omega (arith, l)))
+      go false e f = absurd (some (λ j l. f .none j (omega arith) (omega (arith, l, ltb-false _ _ e))))
+
   -- the loop's invariant: a search of the numbers that are left finds the same
   pub record Searching (n i : ℕ) : Type 0 where
     pub left : ℕ
@@ -83,3 +97,11 @@ module _ (test : ℕ → Bool) where
       go : (k : ℕ) → i + k ≡ n → firstFrom test i k ≡ firstWhere test n → i ≡ firstWhere test n
       go zero q w = w
       go (suc k) q w = absurd (omega (arith, q, l))
+
+-- ---- a list of tests, not all of which fail: the first that is found holds
+pub held : (ts : List Bool) → (anyOf ts ≡ false → ⊥) → getD ts (firstHeld ts) false ≡ true
+held ts some = where-some (λ i. getD ts i false) (length ts) (λ no. some (anyOf-none ts (λ i. go i no (ltb i (length ts)) refl))) .1
+  where
+    go : (i : ℕ) → ((j : ℕ) → j < length ts → getD ts j false ≡ false) → (t : Bool) → ltb i (length ts) ≡ t → getD ts i false ≡ false
+    go i no true e = no i (ltb-true _ _ e)
+    go i no false e = List·getD-eq-default ts false (ltb-false _ _ e)

@@ -50,6 +50,17 @@ pub anyOf-false : (ts : List Bool) → anyOf ts ≡ false → (i : ℕ) → getD
 unfolding anyOf
 anyOf-false ts e i = orFrom-false false ts e i
 
+-- where test number i holds for no i, none holds
+orFrom-none : (ts : List Bool) → ((i : ℕ) → getD ts i false ≡ false) → orFrom false ts ≡ false
+unfolding orFrom
+orFrom-none [] at = refl
+orFrom-none (false ∷ us) at = orFrom-none us (λ i. at (suc i))
+orFrom-none (true ∷ us) at = absurd (true≢false (at 0))
+
+pub anyOf-none : (ts : List Bool) → ((i : ℕ) → getD ts i false ≡ false) → anyOf ts ≡ false
+unfolding anyOf
+anyOf-none ts at = orFrom-none ts at
+
 -- ---- a range
 
 pub inside-low : (lo x hi : ℕ) → outside lo x hi ≡ false → lo ≤ x

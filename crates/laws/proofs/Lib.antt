@@ -6,4 +6,3 @@ pub mod Outside
 pub mod BigEndian
 pub mod Sums
 pub mod Reals
-pub mod Fill

@@ -37,7 +37,7 @@ fn curve_row(file: &[u8], at: usize) -> u64
     requires { ⌜ at + 804 ≤ length (now file) ⌝ }
     ensures { λ r. ⌜ r ≡ curveNumber (entryAt (now (file .entry)) at) ⌝ }
 {
-    if number::outside(1000, entry(file, at, 0), 200000) {
+    if arrays::outside(1000, entry(file, at, 0), 200000) {
         return 6;
     }
     let mut k = 0;

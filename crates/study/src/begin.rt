@@ -1,5 +1,4 @@
 // Start: what refuses it, and the study that it puts into the arrays.
-use crate::copy;
 ghost use mathlib.Core.Path.{_≡_};
 ghost use Prim.Native.Nat.{_+_, _*_, _<_, _≤_};
 ghost use lib.ListN.{length, getD, drop, replicate};
@@ -113,7 +112,7 @@ fn put_row(row: &mut [u64], file: &[u8], mvs: &[u32], queues: &[u32], i: usize)
 {
     let s = network::segment_of(file, i as u32);
     let made = row_words(entry(mvs, i), entry(queues, i), s.most);
-    copy::fill_words(row, &made);
+    arrays::put_words(&made, row);
 }
 
 // Writes the rows of the live case.
@@ -147,7 +146,7 @@ fn put_zeros(words: &mut [u64], at: usize, len: usize)
     ensures { λ _. ⌜ now (words .exit) ≡ putPart at len (replicate len 0) (now (words .entry)) ⌝ }
 {
     let zeros = [0; 16];
-    copy::fill_words(&mut words[at..at + len], &zeros);
+    arrays::put_words(&zeros, &mut words[at..at + len]);
 }
 
 // Writes the network, the run count and the marks, and the words of the live case.

@@ -2,17 +2,9 @@
 use crate::Setting;
 use crate::segment;
 ghost use mathlib.Core.Path.{_≡_};
-ghost use Rattle.laws.specs.First.{outside};
 ghost use Rattle.study.specs.Calls.{sign, meter, step, hold, recall, report, reportSegment};
 ghost use Rattle.study.specs.Change.{complianceBad, signRefused, settingRefused};
 ghost use Rattle.study.specs.Perform.{lent, refusalAt};
-
-// Whether x is not one of least..most.
-pub(crate) fn outside(least: u64, x: u64, most: u64) -> bool
-    ensures { λ r. ⌜ r ≡ outside least x most ⌝ }
-{
-    (x < least) | (most < x)
-}
 
 fn compliance_bad(compliance: i64) -> bool
     ensures { λ r. ⌜ r ≡ complianceBad compliance ⌝ }
@@ -24,7 +16,7 @@ fn compliance_bad(compliance: i64) -> bool
 fn sign_bad(limit: u64, compliance: i64) -> bool
     ensures { λ r. ⌜ r ≡ signRefused limit compliance ⌝ }
 {
-    ((limit != 0) & outside(20, limit, 200)) | compliance_bad(compliance)
+    ((limit != 0) & arrays::outside(20, limit, 200)) | compliance_bad(compliance)
 }
 
 // 20, where the segment's Q is most.
@@ -40,10 +32,10 @@ fn setting_bad(most: u64, setting: Setting) -> bool
             least,
             interval,
         } => {
-            outside(1, target, 199)
-                | outside(1, gain, 60000)
+            arrays::outside(1, target, 199)
+                | arrays::outside(1, gain, 60000)
                 | (most < least)
-                | outside(1, interval, 60)
+                | arrays::outside(1, interval, 60)
         }
     }
 }

@@ -1,5 +1,4 @@
 // A segment by the paper's number, 1..n.
-use crate::refuse;
 use network::Segment;
 ghost use mathlib.Core.Path.{_≡_};
 ghost use Prim.Native.Nat.{_-_, _≤_};
@@ -13,7 +12,7 @@ pub(crate) fn segment_missing(words: &[u64], i: u64) -> bool
     ensures { λ r. ⌜ r ≡ outside 1 i (sizeAt (now (words .entry))) ⌝ }
 {
     let h = network::kept_head(words);
-    refuse::outside(1, i, h.size)
+    arrays::outside(1, i, h.size)
 }
 
 // Segment i of the network in the words.

@@ -1,8 +1,8 @@
 // A study in the lent words and speeds: its network, run count and marks, its live case and six slots.
 mod judge; // judge.rt: whether a study is sound
+mod segment; // segment.rt: a segment by its number
 mod refuse; // refuse.rt: the number that refuses a call
 mod begin; // begin.rt: Start
-mod segment; // segment.rt: a segment by its number
 mod change; // change.rt: what a sign and a setting put into a row
 mod copy; // copy.rt: a case copied to the place of another
 mod figures; // figures.rt: the figures that a report gives

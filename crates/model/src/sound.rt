@@ -92,7 +92,7 @@ fn row_number(words: &[u64], speeds: &[f64], at: usize, from: usize, n: usize, i
     requires { ⌜ i < n ⌝ }
     ensures { λ r. ⌜ r ≡ rowNumberIn (now (words .entry)) (now (speeds .entry)) at from n i ⌝ }
 {
-    let net = &words[..2560];
+    let net = &words[..network::NETWORK_WORDS];
     let s = network::kept_segment(net, i as u32);
     let f = network::kept_entry(net, s.curve as u32, 0);
     let a = at + 16 * i;

@@ -89,7 +89,7 @@ pub(crate) fn start_number(
     }
     let h = network::head_of(file);
     let n = h.size as usize;
-    if (words.len() < 2576 + 7 * (16 * n + 8)) | (speeds.len() < 7 * n) {
+    if (words.len() < crate::FIRST_CASE + 7 * (16 * n + 8)) | (speeds.len() < 7 * n) {
         return 11;
     }
     if (mvs.len() != n) | (starts.len() != n) | (queues.len() != n) {
@@ -122,7 +122,7 @@ fn put_rows(words: &mut [u64], file: &[u8], mvs: &[u32], queues: &[u32], n: usiz
 {
     let mut i = 0;
     while i < n {
-        let to = 2576 + 16 * i;
+        let to = crate::FIRST_CASE + 16 * i;
         put_row(&mut words[to..to + 16], file, mvs, queues, i);
         i += 1;
     }
@@ -156,7 +156,7 @@ pub(crate) fn put_words(words: &mut [u64], file: &[u8], mvs: &[u32], queues: &[u
     ensures { λ _. ⌜ now (words .exit) ≡ beginWords (now (file .entry)) (now (mvs .entry)) (now (queues .entry)) n (now (words .entry)) ⌝ }
 {
     network::keep(file, words);
-    put_zeros(words, 2560, 16);
+    put_zeros(words, crate::RUN_WORD, 16);
     put_rows(words, file, mvs, queues, n);
-    put_zeros(words, 2576 + 16 * n, 8);
+    put_zeros(words, crate::FIRST_CASE + 16 * n, 8);
 }

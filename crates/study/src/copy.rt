@@ -31,7 +31,13 @@ pub(crate) fn copy_words(words: &mut [u64], n: usize, j: usize, k: usize)
 {
     let len = 16 * n + 8;
     let mut held = [0; 648];
-    copy_word_part(words, &mut held, 2576 + j * len, 2576 + k * len, len);
+    copy_word_part(
+        words,
+        &mut held,
+        crate::FIRST_CASE + j * len,
+        crate::FIRST_CASE + k * len,
+        len,
+    );
 }
 
 pub(crate) fn copy_speeds(speeds: &mut [f64], n: usize, j: usize, k: usize)

@@ -84,11 +84,16 @@ pub(crate) fn step_number(words: &[u64], speeds: &[f64], arrivals: &[u32]) -> u6
         return 12;
     }
     let n = words[1] as usize;
-    let r = model::step_number(&words[..2560], arrivals, n, words[2576 + 16 * n]);
+    let r = model::step_number(
+        &words[..network::NETWORK_WORDS],
+        arrivals,
+        n,
+        words[crate::FIRST_CASE + 16 * n],
+    );
     if r != 0 {
         return r;
     }
-    if 1000000 <= words[2560] {
+    if 1000000 <= words[crate::RUN_WORD] {
         return 16;
     }
     0
@@ -104,7 +109,7 @@ pub(crate) fn hold_number(words: &[u64], speeds: &[f64], k: u64) -> u64
     if (k < 1) | (6 < k) {
         return 21;
     }
-    if words[2560 + k as usize] == 1 {
+    if words[crate::RUN_WORD + k as usize] == 1 {
         return 22;
     }
     0
@@ -120,7 +125,7 @@ pub(crate) fn recall_number(words: &[u64], speeds: &[f64], k: u64) -> u64
     if (k < 1) | (6 < k) {
         return 21;
     }
-    if words[2560 + k as usize] != 1 {
+    if words[crate::RUN_WORD + k as usize] != 1 {
         return 23;
     }
     0
@@ -139,7 +144,7 @@ pub(crate) fn case_number(words: &[u64], speeds: &[f64], k: u64) -> u64
     if k == 0 {
         return 0;
     }
-    if words[2560 + k as usize] != 1 {
+    if words[crate::RUN_WORD + k as usize] != 1 {
         return 23;
     }
     0

@@ -20,5 +20,5 @@ pub(crate) fn segment_at(words: &[u64], i: u64) -> Segment
     requires { ⌜ (2560 ≤ length (now words)) × (1 ≤ i) × (i ≤ sizeAt (now words)) × (i ≤ 40) ⌝ }
     ensures { λ r. ⌜ r ≡ segmentOf (networkAt (now (words .entry))) (i - 1) ⌝ }
 {
-    network::kept_segment(&words[..2560], (i - 1) as u32)
+    network::kept_segment(&words[..network::NETWORK_WORDS], (i - 1) as u32)
 }

@@ -1,22 +1,7 @@
 // Figures put into lent words.
 ghost use mathlib.Core.Path.{_≡_};
-ghost use Prim.Native.Nat.{_≤_};
-ghost use mathlib.Core.List.{_++_};
-ghost use lib.ListN.{length, drop};
 ghost use Rattle.study.specs.Calls.{caseSays, segmentSays, runSays};
 ghost use Rattle.engine.specs.Study.{putNumber, putFigures, reportNumber, reportWords};
-
-// Writes src over the first words of out.
-fn copy(src: &[u64], out: &mut [u64])
-    requires { ⌜ length (now src) ≤ length (now out) ⌝ }
-    ensures { λ _. ⌜ now (out .exit) ≡ now (src .entry) ++ drop (length (now (src .entry))) (now (out .entry)) ⌝ }
-{
-    let mut i = 0;
-    while i < src.len() {
-        out[i] = src[i];
-        i += 1;
-    }
-}
 
 // 24 where out is shorter than the figures, with out as it came, or 0.
 pub(crate) fn put_figures(figures: &[u64], out: &mut [u64]) -> u64
@@ -26,7 +11,7 @@ pub(crate) fn put_figures(figures: &[u64], out: &mut [u64]) -> u64
     if out.len() < figures.len() {
         return 24;
     }
-    copy(figures, out);
+    arrays::put_words(figures, out);
     0
 }
 

@@ -62,8 +62,8 @@ module _ (test : ℕ → Bool) where
   where-some n some = go (ltb (firstWhere test n) n) refl (where-found n)
     where
       go : (t : Bool) → ltb (firstWhere test n) n ≡ t → Found 0 n (firstWhere test n) → (firstWhere test n < n) × (test (firstWhere test n) ≡ true)
-      go true e f = let l = ltb-true _ _ e in (l, f .holds (omega (arith, l)))
-      go false e f = absurd (some (λ j l. f .none j (omega arith) (omega (arith, l, ltb-false _ _ e))))
+      go true e f = let l : firstWhere test n < n = ltb-true _ _ e in (l, f .holds (omega (arith, l)))
+      go false e f = let h : n ≤ firstWhere test n = ltb-false _ _ e in absurd (some (λ j l. f .none j (omega arith) (omega (arith, l, h))))
 
   -- the loop's invariant: a search of the numbers that are left finds the same
   pub record Searching (n i : ℕ) : Type 0 where
@@ -100,8 +100,8 @@ module _ (test : ℕ → Bool) where
 
 -- ---- a list of tests, not all of which fail: the first that is found holds
 pub held : (ts : List Bool) → (anyOf ts ≡ false → ⊥) → getD ts (firstHeld ts) false ≡ true
-held ts some = where-some (λ i. getD ts i false) (length ts) (λ no. some (anyOf-none ts (λ i. go i no (ltb i (length ts)) refl))) .1
+held ts some = where-some (λ i. getD ts i false) (length ts) (λ all. some (anyOf-none ts (λ i. go i all (ltb i (length ts)) refl))) .1
   where
     go : (i : ℕ) → ((j : ℕ) → j < length ts → getD ts j false ≡ false) → (t : Bool) → ltb i (length ts) ≡ t → getD ts i false ≡ false
-    go i no true e = no i (ltb-true _ _ e)
-    go i no false e = List·getD-eq-default ts false (ltb-false _ _ e)
+    go i all true e = all i (ltb-true _ _ e)
+    go i all false e = List·getD-eq-default ts false (ltb-false _ _ e)

@@ -2,6 +2,7 @@ pub mod FlowLaws
 pub mod SegmentLaws
 pub mod Turns
 pub mod ReadBack
+pub mod CaseParts
 pub mod CaseLaws
 pub mod Balance
 pub mod SoundLaws

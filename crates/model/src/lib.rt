@@ -114,6 +114,6 @@ pub fn single_step(words: &mut [u64], speeds: &mut [f64], arrivals: &[u32]) -> u
         return r;
     }
     let n = words[1] as usize;
-    step(words, speeds, arrivals, 2560, 0, n);
+    step(words, speeds, arrivals, network::NETWORK_WORDS, 0, n);
     0
 }

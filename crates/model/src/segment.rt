@@ -195,7 +195,7 @@ pub(crate) fn fresh(
     requires { ⌜ FreshOk (now words) a v d i n passed ⌝ }
     ensures { λ r. ⌜ r ≡ freshIn (netOf (now (words .entry))) (drop a (now (words .entry))) v d i n t passed before ⌝ }
 {
-    let net = &words[..2560];
+    let net = &words[..network::NETWORK_WORDS];
     let rest = &words[a..];
     let h = network::kept_head(net);
     let s = network::kept_segment(net, i as u32);
@@ -220,6 +220,6 @@ pub(crate) fn pass_on(words: &[u64], i: usize, out: u64) -> u64
     requires { ⌜ segmentIn (netOf (now words)) i .exit ≤ 1000 ⌝ }
     ensures { λ r. ⌜ r ≡ out - exitPart out (segmentIn (netOf (now (words .entry))) i .exit) ⌝ }
 {
-    let s = network::kept_segment(&words[..2560], i as u32);
+    let s = network::kept_segment(&words[..network::NETWORK_WORDS], i as u32);
     out - flow::exit_part(out, s.exit)
 }

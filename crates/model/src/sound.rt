@@ -6,15 +6,9 @@ use crate::totals;
 use network::Segment;
 ghost use mathlib.Core.Path.{_≡_};
 ghost use Prim.Native.Nat.{_<_, _≤_};
-ghost use Rattle.laws.specs.First.{outside, firstOf};
+ghost use Rattle.laws.specs.First.{firstOf};
 ghost use Rattle.model.specs.Ready.{CaseAt};
 ghost use Rattle.model.specs.Sound.{signBad, hasAlinea, openBad, fixedBad, alineaBad, settingBad, speedBad, rowBad, totalsBad, rowNumberIn, caseNumberIn};
-
-fn outside(least: u64, x: u64, most: u64) -> bool
-    ensures { λ r. ⌜ r ≡ outside least x most ⌝ }
-{
-    (x < least) | (most < x)
-}
 
 fn sign_bad(r: Row) -> bool
     ensures { λ x. ⌜ x ≡ signBad r ⌝ }
@@ -22,7 +16,7 @@ fn sign_bad(r: Row) -> bool
     if r.limit == 0 {
         return 0 < r.compliance;
     }
-    outside(20, r.limit, 200) | (1000 < r.compliance)
+    arrays::outside(20, r.limit, 200) | (1000 < r.compliance)
 }
 
 // Whether any figure that only ALINEA has is there.
@@ -47,11 +41,11 @@ fn fixed_bad(s: Segment, r: Row) -> bool
 fn alinea_bad(s: Segment, r: Row) -> bool
     ensures { λ x. ⌜ x ≡ alineaBad s r ⌝ }
 {
-    outside(1, r.target, 199)
-        | outside(1, r.gain, 60000)
+    arrays::outside(1, r.target, 199)
+        | arrays::outside(1, r.gain, 60000)
         | (s.most < r.least)
-        | outside(1, r.interval, 60)
-        | outside(r.least, r.rate, s.most)
+        | arrays::outside(1, r.interval, 60)
+        | arrays::outside(r.least, r.rate, s.most)
 }
 
 // m says whether the segment may be metered.
@@ -98,7 +92,7 @@ fn row_number(words: &[u64], speeds: &[f64], at: usize, from: usize, n: usize, i
     requires { ⌜ i < n ⌝ }
     ensures { λ r. ⌜ r ≡ rowNumberIn (now (words .entry)) (now (speeds .entry)) at from n i ⌝ }
 {
-    let net = &words[..2560];
+    let net = &words[..network::NETWORK_WORDS];
     let s = network::kept_segment(net, i as u32);
     let f = network::kept_entry(net, s.curve as u32, 0);
     let a = at + 16 * i;

@@ -38,7 +38,7 @@ fn curve_row(file: &[u8], at: usize) -> u64
     ensures { λ r. ⌜ r ≡ curveNumber (entryAt (now (file .entry)) at) ⌝ }
 {
     let mut last = entry(file, at, 0);
-    if number::outside(1000, last, 200000) {
+    if arrays::outside(1000, last, 200000) {
         return 6;
     }
     let mut k = 0;

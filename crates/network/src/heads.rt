@@ -11,12 +11,12 @@ ghost use Rattle.network.specs.File.{hasMark, headOf, headPadding, headN
 pub(crate) fn head_bad(h: Head) -> bool
     ensures { λ r. ⌜ r ≡ headBad h ⌝ }
 {
-    number::outside(1, h.step, 60)
-        | number::outside(1, h.size, 40)
-        | number::outside(1, h.curves, 8)
-        | number::outside(1, h.tau, 120)
+    arrays::outside(1, h.step, 60)
+        | arrays::outside(1, h.size, 40)
+        | arrays::outside(1, h.curves, 8)
+        | arrays::outside(1, h.tau, 120)
         | (200 < h.nu)
-        | number::outside(1, h.kappa, 200)
+        | arrays::outside(1, h.kappa, 200)
         | (1000 < h.delta)
 }
 

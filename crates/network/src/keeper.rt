@@ -59,17 +59,6 @@ fn segment_words(s: Segment) -> [u64; 16]
 }
 
 // Each of these writes over the first words of the part that it is lent.
-fn put_words(src: &[u64], words: &mut [u64])
-    requires { ⌜ length (now src) ≤ length (now words) ⌝ }
-    ensures { λ _. ⌜ now (words .exit) ≡ now (src .entry) ++ drop (length (now (src .entry))) (now (words .entry)) ⌝ }
-{
-    let mut i = 0;
-    while i < src.len() {
-        words[i] = src[i];
-        i += 1;
-    }
-}
-
 fn put_zeros(words: &mut [u64], n: usize)
     requires { ⌜ n ≤ length (now words) ⌝ }
     ensures { λ _. ⌜ now (words .exit) ≡ replicate n 0 ++ drop n (now (words .entry)) ⌝ }
@@ -86,7 +75,7 @@ fn put_head(words: &mut [u64], h: Head)
     ensures { λ _. ⌜ now (words .exit) ≡ headWords h ++ drop 16 (now (words .entry)) ⌝ }
 {
     let head = head_words(h);
-    put_words(&head, words);
+    arrays::put_words(&head, words);
 }
 
 fn put_segment(words: &mut [u64], s: Segment)
@@ -94,7 +83,7 @@ fn put_segment(words: &mut [u64], s: Segment)
     ensures { λ _. ⌜ now (words .exit) ≡ segmentWords s ++ drop 16 (now (words .entry)) ⌝ }
 {
     let segment = segment_words(s);
-    put_words(&segment, words);
+    arrays::put_words(&segment, words);
 }
 
 // Writes count entries, which stand in the file from byte 16 on, at word 16.

@@ -14,6 +14,9 @@ ghost use Rattle.network.specs.File.{headOf, entryOn, segmentOn, recordC
 ghost use Rattle.network.specs.Curve.{curveCallNumber, curveBytes};
 ghost use Rattle.network.specs.Words.{headIn, entryIn, segmentIn, keptNumber, writeNumber, writeBytes, keepNumber, keepWords};
 
+// The words of a kept network.
+pub const NETWORK_WORDS: usize = 2560;
+
 // The numbers of the head: the step T in seconds, the number of segments n, the number of curves c, then τ in seconds, ν in km²/h,
 // κ in veh/km/lane and δ in thousandths.
 pub struct Head {
@@ -152,7 +155,7 @@ pub fn kept_entry(kept: &[u64], k: u32, j: u32) -> u64
 pub fn kept_number(kept: &[u64]) -> u64
     ensures { λ r. ⌜ r ≡ keptNumber (now (kept .entry)) ⌝ }
 {
-    if kept.len() < 2560 {
+    if kept.len() < NETWORK_WORDS {
         return 11;
     }
     words::rows_number(kept)
@@ -188,7 +191,7 @@ pub fn keep(file: &[u8], words: &mut [u64]) -> u64
     if (8 < h.curves) | (40 < h.size) {
         return 4;
     }
-    if words.len() < 2560 {
+    if words.len() < NETWORK_WORDS {
         return 11;
     }
     keeper::keep_network(file, h, words);

@@ -3,7 +3,7 @@ ghost use mathlib.Core.Path.{_≡_};
 ghost use Prim.Native.Nat.{_+_, _%_, _<_, _≤_};
 ghost use lib.ListN.{length, getD};
 ghost use lib.Dec.{ltb};
-ghost use Rattle.laws.specs.First.{row, outside};
+ghost use Rattle.laws.specs.First.{row};
 ghost use Rattle.laws.specs.BigEndian.{byteAt, u16At, u32At, low};
 
 pub(crate) fn wide(x: u8) -> u64
@@ -65,13 +65,6 @@ pub(crate) fn low(x: u64) -> u8
     ensures { λ r. ⌜ r ≡ x % 256 ⌝ }
 {
     (x % 256) as u8
-}
-
-// Whether x is not one of least..most.
-pub(crate) fn outside(least: u64, x: u64, most: u64) -> bool
-    ensures { λ r. ⌜ r ≡ outside least x most ⌝ }
-{
-    (x < least) | (most < x)
 }
 
 // Row 6, of eight entries of a curve, b to i, each against the one before it. Curves are judged eight entries at a time, so that the

@@ -53,12 +53,12 @@ fn fields_bad(h: Head, i: u64, s: Segment) -> bool
     requires { ⌜ i < 40 ⌝ }
     ensures { λ r. ⌜ segmentBad h i s ≡ ((r || (eqb (s .origin) 0 && ltb 0 (s .most))) || (eqb (s .origin) 1 && outside 1 (s .most) 300000)) ⌝ }
 {
-    number::outside(100, s.metres, 2000)
-        | number::outside(1, s.lanes, 8)
+    arrays::outside(100, s.metres, 2000)
+        | arrays::outside(1, s.lanes, 8)
         | (h.curves <= s.curve)
         | (s.critical < 1)
         | (s.jam <= s.critical)
-        | number::outside(2, s.jam, 200)
+        | arrays::outside(2, s.jam, 200)
         | (1 < s.origin)
         | ((i == 0) & (s.origin == 0))
         | (1000 < s.exit)
@@ -76,7 +76,7 @@ pub(crate) fn segment_bad(h: Head, i: u64, s: Segment) -> bool
     if s.origin == 0 {
         return 0 < s.most;
     }
-    (s.origin == 1) & number::outside(1, s.most, 300000)
+    (s.origin == 1) & arrays::outside(1, s.most, 300000)
 }
 
 // Row 8, where first is the first entry of the segment's curve.

@@ -74,7 +74,7 @@ fn curve_row(kept: &[u64], k: usize) -> u64
     requires { ⌜ (2560 ≤ length (now kept)) × (k < 8) ⌝ }
     ensures { λ r. ⌜ r ≡ curveNumber (entryIn (now (kept .entry)) k) ⌝ }
 {
-    if number::outside(1000, entry_in(kept, k, 0), 200000) {
+    if arrays::outside(1000, entry_in(kept, k, 0), 200000) {
         return 6;
     }
     let mut m = 0;

@@ -27,12 +27,12 @@ fn head_rules(h: network::Head, z11: u64, z14: u64, z15: u64) -> [bool; 10]
     ensures { λ r. ⌜ r ≡ headTests h ++ (ltb 0 z11 ∷ ltb 0 z14 ∷ ltb 0 z15 ∷ []) ⌝ }
 {
     [
-        search::outside(1, h.step, 60),
-        search::outside(1, h.size, 40),
-        search::outside(1, h.curves, 8),
-        search::outside(1, h.tau, 120),
+        arrays::outside(1, h.step, 60),
+        arrays::outside(1, h.size, 40),
+        arrays::outside(1, h.curves, 8),
+        arrays::outside(1, h.tau, 120),
         200 < h.nu,
-        search::outside(1, h.kappa, 200),
+        arrays::outside(1, h.kappa, 200),
         1000 < h.delta,
         0 < z11,
         0 < z14,
@@ -85,18 +85,18 @@ fn record_rules(
 {
     let next = i + 1;
     [
-        search::outside(100, s.metres, 2000),
-        search::outside(1, s.lanes, 8),
+        arrays::outside(100, s.metres, 2000),
+        arrays::outside(1, s.lanes, 8),
         h.curves <= s.curve,
         s.critical < 1,
         s.jam <= s.critical,
-        search::outside(2, s.jam, 200),
+        arrays::outside(2, s.jam, 200),
         1 < s.origin,
         (i == 0) & (s.origin == 0),
         1000 < s.exit,
         (next == h.size) & (0 < s.exit),
         (s.origin == 0) & (0 < s.most),
-        (s.origin == 1) & search::outside(1, s.most, 300000),
+        (s.origin == 1) & arrays::outside(1, s.most, 300000),
         0 < z7,
         0 < z14,
         0 < z15,

@@ -1,7 +1,6 @@
 // Searches: the first test of a list that holds, and the first entry and the first record of a file that are refused.
 ghost use mathlib.Core.Path.{_≡_};
 ghost use Prim.Native.Nat.{_≤_};
-ghost use Rattle.laws.specs.First.{outside};
 ghost use Rattle.laws.specs.Search.{firstHeld};
 ghost use Rattle.network.specs.File.{entryOn};
 ghost use Rattle.places.specs.Place.{entryBad, badEntry, badRecord};
@@ -20,20 +19,13 @@ pub(crate) fn first_held(tests: &[bool]) -> u64
     i as u64
 }
 
-// Whether x is not one of least..most.
-pub(crate) fn outside(least: u64, x: u64, most: u64) -> bool
-    ensures { λ r. ⌜ r ≡ outside least x most ⌝ }
-{
-    (x < least) | (most < x)
-}
-
 // Row 6, of entry j of curve k.
 fn entry_bad(file: &[u8], k: u32, j: u32) -> bool
     ensures { λ r. ⌜ r ≡ entryBad (entryOn (now (file .entry)) k) j ⌝ }
 {
     let e = network::entry_of(file, k, j);
     if j == 0 {
-        return outside(1000, e, 200000);
+        return arrays::outside(1000, e, 200000);
     }
     network::entry_of(file, k, j - 1) < e
 }

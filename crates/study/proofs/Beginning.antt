@@ -3,7 +3,7 @@ use Prim.Native.Nat.{ℕ, _+_, _*_, _≤_, _<_}
 use mathlib.Core.Path.{_≡_, refl, sym, ap, _∙_}
 use mathlib.Core.List.{List, _++_, append-assoc, append-nil}
 use native.Mathlib.Omega.{arith}
-use lib.ListN.{length, getD, take, drop, replicate, length-append, length-take, drop-of-length-le}
+use lib.ListN.{length, getD, drop, replicate, length-append, length-take, drop-of-length-le}
 use lib.Ieee.{Float}
 use Rattle.laws.specs.Lists.{table, part, putPart, parts, puts}
 use Rattle.laws.specs.Real.{real}
@@ -32,10 +32,6 @@ use Rattle.study.proofs.Starting.{same-segment}
 pub length-open : (mv queue most : ℕ) → length (openWords mv queue most) ≡ 16
 unfolding openWords
 length-open mv queue most = refl
-
-pub open-whole : (mv queue most : ℕ) → take 16 (openWords mv queue most) ≡ openWords mv queue most
-unfolding openWords
-open-whole mv queue most = refl
 
 -- a part of 16, whose length the code computed as k
 pub part-long : (l : List ℕ) (at k : ℕ) → k ≡ 16 → at + 16 ≤ length l → length (part at k l) ≡ 16

@@ -11,7 +11,6 @@ pub mod Lines
 pub mod LineRows
 pub mod LineStep
 pub mod LineStart
-pub mod CaseParts
 pub mod Stored
 pub mod Places
 pub mod RowStores

@@ -19,7 +19,7 @@ use Rattle.model.specs.Case.{Case}
 use Rattle.model.specs.Words.{netOf, caseIn}
 use Rattle.study.specs.Arrangement.{runWord, markWord, caseLength, caseWord, caseSpeed, wordsFor, speedsFor, sizeAt, runCountAt, markAt, caseAt}
 use Rattle.study.specs.Perform.{Arrays}
-use Rattle.study.proofs.CaseParts.{case-same}
+use Rattle.model.proofs.CaseParts.{case-same}
 use Rattle.study.proofs.Stored.{Stored}
 
 -- ---- places

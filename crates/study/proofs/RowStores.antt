@@ -21,7 +21,7 @@ use Rattle.study.specs.Calls.{sign, meter}
 use Rattle.study.specs.Change.{signedRow, meteredRow, withRow}
 use Rattle.study.specs.Perform.{Arrays, rowWord, signedWords, meteredWords, storedWords, storedSpeeds}
 use Rattle.study.specs.Book.{signed, metered, change}
-use Rattle.study.proofs.CaseParts.{row-put, row-put-same}
+use Rattle.model.proofs.CaseParts.{row-put, row-put-same}
 use Rattle.study.proofs.Stored.{stored, Fit, Stored}
 use Rattle.study.proofs.Places.{case-stored}
 

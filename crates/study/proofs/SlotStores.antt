@@ -13,7 +13,7 @@ use Rattle.laws.proofs.Outside.{same-all, put-same, part-put}
 use Rattle.study.specs.Arrangement.{caseLength, caseWord, caseSpeed, sizeAt, runCountAt, markAt, caseAt}
 use Rattle.study.specs.Calls.{hold, recall, dropSlot}
 use Rattle.study.specs.Perform.{Arrays, copiedWords, copiedSpeeds, storedWords, storedSpeeds}
-use Rattle.study.proofs.CaseParts.{case-same}
+use Rattle.model.proofs.CaseParts.{case-same}
 use Rattle.study.proofs.Stored.{stored, Fit, Stored}
 use Rattle.study.proofs.Places.{word-room, speed-room, case-stored, mark-stored}
 

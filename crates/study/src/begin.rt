@@ -1,5 +1,4 @@
 // Start: what refuses it, and the study that it puts into the arrays.
-use crate::copy;
 ghost use mathlib.Core.Path.{_≡_};
 ghost use Prim.Native.Nat.{_+_, _*_, _<_, _≤_};
 ghost use lib.ListN.{length, getD, drop, replicate};
@@ -90,7 +89,7 @@ pub(crate) fn start_number(
     }
     let h = network::head_of(file);
     let n = h.size as usize;
-    if (words.len() < 2576 + 7 * (16 * n + 8)) | (speeds.len() < 7 * n) {
+    if (words.len() < crate::FIRST_CASE + 7 * (16 * n + 8)) | (speeds.len() < 7 * n) {
         return 11;
     }
     if (mvs.len() != n) | (starts.len() != n) | (queues.len() != n) {
@@ -113,7 +112,7 @@ fn put_row(row: &mut [u64], file: &[u8], mvs: &[u32], queues: &[u32], i: usize)
 {
     let s = network::segment_of(file, i as u32);
     let made = row_words(entry(mvs, i), entry(queues, i), s.most);
-    copy::fill_words(row, &made);
+    arrays::put_words(&made, row);
 }
 
 // Writes the rows of the live case.
@@ -123,7 +122,7 @@ fn put_rows(words: &mut [u64], file: &[u8], mvs: &[u32], queues: &[u32], n: usiz
 {
     let mut i = 0;
     while i < n {
-        let to = 2576 + 16 * i;
+        let to = crate::FIRST_CASE + 16 * i;
         put_row(&mut words[to..to + 16], file, mvs, queues, i);
         i += 1;
     }
@@ -147,7 +146,7 @@ fn put_zeros(words: &mut [u64], at: usize, len: usize)
     ensures { λ _. ⌜ now (words .exit) ≡ putPart at len (replicate len 0) (now (words .entry)) ⌝ }
 {
     let zeros = [0; 16];
-    copy::fill_words(&mut words[at..at + len], &zeros);
+    arrays::put_words(&zeros, &mut words[at..at + len]);
 }
 
 // Writes the network, the run count and the marks, and the words of the live case.
@@ -157,7 +156,7 @@ pub(crate) fn put_words(words: &mut [u64], file: &[u8], mvs: &[u32], queues: &[u
     ensures { λ _. ⌜ now (words .exit) ≡ beginWords (now (file .entry)) (now (mvs .entry)) (now (queues .entry)) n (now (words .entry)) ⌝ }
 {
     network::keep(file, words);
-    put_zeros(words, 2560, 16);
+    put_zeros(words, crate::RUN_WORD, 16);
     put_rows(words, file, mvs, queues, n);
-    put_zeros(words, 2576 + 16 * n, 8);
+    put_zeros(words, crate::FIRST_CASE + 16 * n, 8);
 }

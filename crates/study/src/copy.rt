@@ -1,33 +1,10 @@
 // A case's words and speeds, copied to the place of another.
 ghost use mathlib.Core.Path.{_≡_};
 ghost use Prim.Native.Nat.{_+_, _≤_};
-ghost use lib.ListN.{length, take};
+ghost use lib.ListN.{length};
 ghost use Rattle.laws.specs.Lists.{part, putPart};
 ghost use Rattle.study.specs.Arrangement.{wordsFor, speedsFor};
 ghost use Rattle.study.specs.Perform.{copiedWords, copiedSpeeds};
-
-// dst, filled from the front of src.
-pub(crate) fn fill_words(dst: &mut [u64], src: &[u64])
-    requires { ⌜ length (now dst) ≤ length (now src) ⌝ }
-    ensures { λ _. ⌜ now (dst .exit) ≡ take (length (now (dst .entry))) (now (src .entry)) ⌝ }
-{
-    let mut i = 0;
-    while i < dst.len() {
-        dst[i] = src[i];
-        i += 1;
-    }
-}
-
-fn fill_speeds(dst: &mut [f64], src: &[f64])
-    requires { ⌜ length (now dst) ≤ length (now src) ⌝ }
-    ensures { λ _. ⌜ now (dst .exit) ≡ take (length (now (dst .entry))) (now (src .entry)) ⌝ }
-{
-    let mut i = 0;
-    while i < dst.len() {
-        dst[i] = src[i];
-        i += 1;
-    }
-}
 
 // The part of len words at `from`, over the one at `to`. Two parts of the lent words are never lent at once: what is copied is held in
 // between.
@@ -35,16 +12,16 @@ fn copy_word_part(words: &mut [u64], held: &mut [u64], from: usize, to: usize, l
     requires { ⌜ (from + len ≤ length (now words)) × (to + len ≤ length (now words)) × (len ≤ length (now held)) ⌝ }
     ensures { λ _. ⌜ now (words .exit) ≡ putPart to len (part from len (now (words .entry))) (now (words .entry)) ⌝ }
 {
-    fill_words(&mut held[..len], &words[from..from + len]);
-    fill_words(&mut words[to..to + len], &held[..len]);
+    arrays::put_words(&words[from..from + len], &mut held[..len]);
+    arrays::put_words(&held[..len], &mut words[to..to + len]);
 }
 
 fn copy_speed_part(speeds: &mut [f64], held: &mut [f64], from: usize, to: usize, len: usize)
     requires { ⌜ (from + len ≤ length (now speeds)) × (to + len ≤ length (now speeds)) × (len ≤ length (now held)) ⌝ }
     ensures { λ _. ⌜ now (speeds .exit) ≡ putPart to len (part from len (now (speeds .entry))) (now (speeds .entry)) ⌝ }
 {
-    fill_speeds(&mut held[..len], &speeds[from..from + len]);
-    fill_speeds(&mut speeds[to..to + len], &held[..len]);
+    arrays::put_speeds(&speeds[from..from + len], &mut held[..len]);
+    arrays::put_speeds(&held[..len], &mut speeds[to..to + len]);
 }
 
 // Case j over case k.
@@ -54,7 +31,13 @@ pub(crate) fn copy_words(words: &mut [u64], n: usize, j: usize, k: usize)
 {
     let len = 16 * n + 8;
     let mut held = [0; 648];
-    copy_word_part(words, &mut held, 2576 + j * len, 2576 + k * len, len);
+    copy_word_part(
+        words,
+        &mut held,
+        crate::FIRST_CASE + j * len,
+        crate::FIRST_CASE + k * len,
+        len,
+    );
 }
 
 pub(crate) fn copy_speeds(speeds: &mut [f64], n: usize, j: usize, k: usize)

@@ -35,7 +35,7 @@ pub(crate) fn case_figures(words: &[u64], n: usize, k: usize) -> CaseFigures
     requires { ⌜ Summable (now words) (caseWord n k) 1 n ⌝ }
     ensures { λ r. ⌜ r ≡ figuresAt (now (words .entry)) (caseWord n k) n ⌝ }
 {
-    let at = 2576 + k * (16 * n + 8);
+    let at = crate::FIRST_CASE + k * (16 * n + 8);
     let e = at + 16 * n;
     CaseFigures {
         steps: words[e],
@@ -86,8 +86,8 @@ pub(crate) fn segment_figures(
     requires { ⌜ i < n ⌝ }
     ensures { λ r. ⌜ r ≡ rowFigures (segmentIn (netOf (now (words .entry))) i) (rowAt (now (words .entry)) (now (speeds .entry)) (caseWord n k) (caseSpeed n k) i) ⌝ }
 {
-    let a = 2576 + k * (16 * n + 8) + 16 * i;
+    let a = crate::FIRST_CASE + k * (16 * n + 8) + 16 * i;
     let b = k * n + i;
-    let s = network::kept_segment(&words[..2560], i as u32);
+    let s = network::kept_segment(&words[..network::NETWORK_WORDS], i as u32);
     row_figures(s, &words[a..], speeds[b])
 }

@@ -13,7 +13,13 @@ fn place_number(words: &[u64], speeds: &[f64], n: usize, k: usize) -> u64
     requires { ⌜ k ≤ 6 ⌝ }
     ensures { λ r. ⌜ r ≡ placeNumber (now (words .entry)) (now (speeds .entry)) k ⌝ }
 {
-    model::case_number(words, speeds, 2576 + k * (16 * n + 8), k * n, n)
+    model::case_number(
+        words,
+        speeds,
+        crate::FIRST_CASE + k * (16 * n + 8),
+        k * n,
+        n,
+    )
 }
 
 // Slot k: its mark is 0, or 1 with a sound case.
@@ -22,7 +28,7 @@ fn slot_number(words: &[u64], speeds: &[f64], n: usize, k: usize) -> u64
     requires { ⌜ k ≤ 6 ⌝ }
     ensures { λ r. ⌜ r ≡ slotNumber (now (words .entry)) (now (speeds .entry)) k ⌝ }
 {
-    let mark = words[2560 + k];
+    let mark = words[crate::RUN_WORD + k];
     if 1 < mark {
         return 12;
     }
@@ -52,7 +58,7 @@ fn cases_number(words: &[u64], speeds: &[f64], n: usize) -> u64
     requires { ⌜ Laid (now words) (now speeds) n ⌝ }
     ensures { λ r. ⌜ r ≡ casesNumber (now (words .entry)) (now (speeds .entry)) ⌝ }
 {
-    if 1000000 < words[2560] {
+    if 1000000 < words[crate::RUN_WORD] {
         return 12;
     }
     let live = place_number(words, speeds, n, 0);
@@ -65,16 +71,16 @@ fn cases_number(words: &[u64], speeds: &[f64], n: usize) -> u64
 pub(crate) fn sound_number(words: &[u64], speeds: &[f64]) -> u64
     ensures { λ r. ⌜ r ≡ soundNumber (now (words .entry)) (now (speeds .entry)) ⌝ }
 {
-    if words.len() < 2560 {
+    if words.len() < network::NETWORK_WORDS {
         return 12;
     }
-    let net = &words[..2560];
+    let net = &words[..network::NETWORK_WORDS];
     if 0 < network::kept_number(net) {
         return 12;
     }
     let h = network::kept_head(net);
     let n = h.size as usize;
-    if (words.len() < 2576 + 7 * (16 * n + 8)) | (speeds.len() < 7 * n) {
+    if (words.len() < crate::FIRST_CASE + 7 * (16 * n + 8)) | (speeds.len() < 7 * n) {
         return 12;
     }
     cases_number(words, speeds, n)

@@ -1,8 +1,8 @@
 // A study in the lent words and speeds: its network, run count and marks, its live case and six slots.
 mod judge; // judge.rt: whether a study is sound
+mod segment; // segment.rt: a segment by its number
 mod refuse; // refuse.rt: the number that refuses a call
 mod begin; // begin.rt: Start
-mod segment; // segment.rt: a segment by its number
 mod change; // change.rt: what a sign and a setting put into a row
 mod copy; // copy.rt: a case copied to the place of another
 mod figures; // figures.rt: the figures that a report gives
@@ -13,6 +13,11 @@ ghost use Rattle.study.specs.Calls.{start, sign, meter, step, hold, reca
 ghost use Rattle.study.specs.Calls.{verdictSays, caseSays, segmentSays, runSays};
 ghost use Rattle.study.specs.Perform.{Performs};
 ghost use Rattle.study.specs.Write.{writtenBytes, writeAnswer, writtenSays};
+
+// The word of the run count, k words before the mark of slot k; and the first word of the live case, before those of the slots.
+pub(crate) const RUN_WORD: usize = network::NETWORK_WORDS;
+
+pub(crate) const FIRST_CASE: usize = RUN_WORD + 16;
 
 // A ramp's setting: open, fixed at a rate in mv a step, or ALINEA with target in veh/km/lane, gain and least in mv, interval z in steps.
 pub enum Setting {
@@ -112,7 +117,7 @@ pub fn sign(words: &mut [u64], speeds: &[f64], i: u64, limit: u64, compliance: i
     if r != 0 {
         return Verdict::Refused(r);
     }
-    let at = 2576 + 16 * ((i - 1) as usize);
+    let at = FIRST_CASE + 16 * ((i - 1) as usize);
     change::put_sign(&mut words[at..at + 16], limit, compliance);
     Verdict::Accepted
 }
@@ -126,7 +131,7 @@ pub fn meter(words: &mut [u64], speeds: &[f64], i: u64, setting: Setting) -> Ver
         return Verdict::Refused(r);
     }
     let s = segment::segment_at(words, i);
-    let at = 2576 + 16 * ((i - 1) as usize);
+    let at = FIRST_CASE + 16 * ((i - 1) as usize);
     change::put_setting(&mut words[at..at + 16], s.most, setting);
     Verdict::Accepted
 }
@@ -140,9 +145,9 @@ pub fn step(words: &mut [u64], speeds: &mut [f64], arrivals: &[u32]) -> Verdict
         return Verdict::Refused(r);
     }
     let n = words[1] as usize;
-    let runs = words[2560];
-    model::step(words, speeds, arrivals, 2576, 0, n);
-    words[2560] = runs + 1;
+    let runs = words[RUN_WORD];
+    model::step(words, speeds, arrivals, FIRST_CASE, 0, n);
+    words[RUN_WORD] = runs + 1;
     Verdict::Accepted
 }
 
@@ -158,7 +163,7 @@ pub fn hold(words: &mut [u64], speeds: &mut [f64], k: u64) -> Verdict
     let slot = k as usize;
     copy::copy_words(words, n, 0, slot);
     copy::copy_speeds(speeds, n, 0, slot);
-    words[2560 + slot] = 1;
+    words[RUN_WORD + slot] = 1;
     Verdict::Accepted
 }
 
@@ -185,7 +190,7 @@ pub fn drop_slot(words: &mut [u64], speeds: &[f64], k: u64) -> Verdict
     if r != 0 {
         return Verdict::Refused(r);
     }
-    words[2560 + k as usize] = 0;
+    words[RUN_WORD + k as usize] = 0;
     Verdict::Accepted
 }
 
@@ -219,7 +224,7 @@ pub fn run_count(words: &[u64], speeds: &[f64]) -> RunReport
     if !sound(words, speeds) {
         return RunReport::Refused(12);
     }
-    RunReport::Count(words[2560])
+    RunReport::Count(words[RUN_WORD])
 }
 
 // Writes the stored network as a file from the buffer's first byte on; later bytes stay. A refused call leaves the buffer as it came.
@@ -230,7 +235,7 @@ pub fn write(words: &[u64], speeds: &[f64], out: &mut [u8]) -> Written
     if !sound(words, speeds) {
         return Written::Refused(12);
     }
-    let net = &words[..2560];
+    let net = &words[..network::NETWORK_WORDS];
     let r = network::write(net, out);
     if r != 0 {
         return Written::Refused(r);

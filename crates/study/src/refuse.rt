@@ -2,17 +2,9 @@
 use crate::Setting;
 use crate::segment;
 ghost use mathlib.Core.Path.{_≡_};
-ghost use Rattle.laws.specs.First.{outside};
 ghost use Rattle.study.specs.Calls.{sign, meter, step, hold, recall, report, reportSegment};
 ghost use Rattle.study.specs.Change.{complianceBad, signRefused, settingRefused};
 ghost use Rattle.study.specs.Perform.{lent, refusalAt};
-
-// Whether x is not one of least..most.
-pub(crate) fn outside(least: u64, x: u64, most: u64) -> bool
-    ensures { λ r. ⌜ r ≡ outside least x most ⌝ }
-{
-    (x < least) | (most < x)
-}
 
 fn compliance_bad(compliance: i64) -> bool
     ensures { λ r. ⌜ r ≡ complianceBad compliance ⌝ }
@@ -24,7 +16,7 @@ fn compliance_bad(compliance: i64) -> bool
 fn sign_bad(limit: u64, compliance: i64) -> bool
     ensures { λ r. ⌜ r ≡ signRefused limit compliance ⌝ }
 {
-    ((limit != 0) & outside(20, limit, 200)) | compliance_bad(compliance)
+    ((limit != 0) & arrays::outside(20, limit, 200)) | compliance_bad(compliance)
 }
 
 // 20, where the segment's Q is most.
@@ -40,10 +32,10 @@ fn setting_bad(most: u64, setting: Setting) -> bool
             least,
             interval,
         } => {
-            outside(1, target, 199)
-                | outside(1, gain, 60000)
+            arrays::outside(1, target, 199)
+                | arrays::outside(1, gain, 60000)
                 | (most < least)
-                | outside(1, interval, 60)
+                | arrays::outside(1, interval, 60)
         }
     }
 }
@@ -92,11 +84,16 @@ pub(crate) fn step_number(words: &[u64], speeds: &[f64], arrivals: &[u32]) -> u6
         return 12;
     }
     let n = words[1] as usize;
-    let r = model::step_number(&words[..2560], arrivals, n, words[2576 + 16 * n]);
+    let r = model::step_number(
+        &words[..network::NETWORK_WORDS],
+        arrivals,
+        n,
+        words[crate::FIRST_CASE + 16 * n],
+    );
     if r != 0 {
         return r;
     }
-    if 1000000 <= words[2560] {
+    if 1000000 <= words[crate::RUN_WORD] {
         return 16;
     }
     0
@@ -112,7 +109,7 @@ pub(crate) fn hold_number(words: &[u64], speeds: &[f64], k: u64) -> u64
     if (k < 1) | (6 < k) {
         return 21;
     }
-    if words[2560 + k as usize] == 1 {
+    if words[crate::RUN_WORD + k as usize] == 1 {
         return 22;
     }
     0
@@ -128,7 +125,7 @@ pub(crate) fn recall_number(words: &[u64], speeds: &[f64], k: u64) -> u64
     if (k < 1) | (6 < k) {
         return 21;
     }
-    if words[2560 + k as usize] != 1 {
+    if words[crate::RUN_WORD + k as usize] != 1 {
         return 23;
     }
     0
@@ -147,7 +144,7 @@ pub(crate) fn case_number(words: &[u64], speeds: &[f64], k: u64) -> u64
     if k == 0 {
         return 0;
     }
-    if words[2560 + k as usize] != 1 {
+    if words[crate::RUN_WORD + k as usize] != 1 {
         return 23;
     }
     0

@@ -1,5 +1,4 @@
 // A segment by the paper's number, 1..n.
-use crate::refuse;
 use network::Segment;
 ghost use mathlib.Core.Path.{_≡_};
 ghost use Prim.Native.Nat.{_-_, _≤_};
@@ -13,7 +12,7 @@ pub(crate) fn segment_missing(words: &[u64], i: u64) -> bool
     ensures { λ r. ⌜ r ≡ outside 1 i (sizeAt (now (words .entry))) ⌝ }
 {
     let h = network::kept_head(words);
-    refuse::outside(1, i, h.size)
+    arrays::outside(1, i, h.size)
 }
 
 // Segment i of the network in the words.
@@ -21,5 +20,5 @@ pub(crate) fn segment_at(words: &[u64], i: u64) -> Segment
     requires { ⌜ (2560 ≤ length (now words)) × (1 ≤ i) × (i ≤ sizeAt (now words)) × (i ≤ 40) ⌝ }
     ensures { λ r. ⌜ r ≡ segmentOf (networkAt (now (words .entry))) (i - 1) ⌝ }
 {
-    network::kept_segment(&words[..2560], (i - 1) as u32)
+    network::kept_segment(&words[..network::NETWORK_WORDS], (i - 1) as u32)
 }

@@ -4,6 +4,7 @@ use denote.Ref.{now}
 use borrow.Author.Needs.{needs}
 use borrow.Author.Tests.{lt-ltb, le-ltb}
 use Rattle.laws.proofs.First.{row-applies, row-skipped, when-accepted, when-refused}
+use Rattle.arrays.proofs.Over.{over-fits}
 use Rattle.engine.specs.Study.{putNumber, putFigures}
 use Rattle.engine.proofs.report.put_figures.Statement.{statement}
 use Rattle.engine.proofs.report.put_figures.Tie as tie
@@ -20,7 +21,7 @@ unfolding putNumber putFigures
 returns-2 c =
     let test = c .before .before .before .before in
     let number = row-skipped _ _ _ (le-ltb _ _ (test .if1 .left)) in
-    (sym number, c .before .before .copy .ensures ∙ sym (when-accepted _ _ _ number))
+    (sym number, c .before .before .put-words .ensures ∙ over-fits _ _ (test .if1 .left) ∙ sym (when-accepted _ _ _ number))
 
 pub put-figures-spec : {M : Type 1} → statement M
 put-figures-spec = tie.close (tie.spec returns (λ c κs. search needs) (λ c. search needs) returns-2)

@@ -1,4 +1,6 @@
 use mathlib.Core.Path.{_∙_}
+use native.Mathlib.Omega.{arith}
+use Rattle.arrays.proofs.Over.{over-fits}
 use Rattle.network.specs.Words.{segmentWords}
 use borrow.Author.Needs.{needs}
 use Rattle.network.proofs.keeper.put_segment.Statement.{statement}
@@ -6,7 +8,7 @@ use Rattle.network.proofs.keeper.put_segment.Tie as tie
 
 returns : tie.Need-returns
 unfolding segmentWords
-returns c = c .before .before .put-words .ensures ∙ rw (c .before .before .before .before .before .segment-words .ensures)
+returns c = c .before .before .put-words .ensures ∙ rw (c .before .before .before .before .before .segment-words .ensures) (over-fits _ _ (omega arith))
 
 pub put-segment-spec : {M : Type 1} → statement M
 put-segment-spec =

@@ -1,61 +1,48 @@
 -- The part goes into the front of the held list, and from there over the other part.
 use mathlib.Core.Path.{sym}
 use borrow.Author.Needs.{needs}
-use Rattle.laws.proofs.Fill.{Parts, front-length, into-fits, held-length, over-fits, part-over}
+use Rattle.arrays.proofs.Over.{Parts, front-length, held-length, part-over}
 use Rattle.study.proofs.copy.copy_word_part.Statement.{statement}
 use Rattle.study.proofs.copy.copy_word_part.Tie as tie
 
 parts : (s : tie.Start) → Parts (s .args .words .now) (s .args .held .now) (s .args .from) (s .args .to) (s .args .len)
 parts s = record { first = s .pre .0; second = s .pre .1; room = s .pre .2 }
 
-abbrev start : tie.After-fill-words → tie.Start
+abbrev start : tie.After-put-words → tie.Start
 start c = c .before .before .before .before .before .before
 
-slice-aggregate-fill-words : tie.Need-slice-aggregate-fill-words
-slice-aggregate-fill-words c = let s = c .before .before .before in sym (front-length (parts s))
+slice-aggregate-put-words : tie.Need-slice-aggregate-put-words
+slice-aggregate-put-words c = sym (front-length (parts (c .before .before .before .before .before)))
 
-fill-words-requires : tie.Need-fill-words-requires
-fill-words-requires c κs = let s = c .before .before .before .before .before in into-fits (parts s)
-
-slice-aggregate-fill-words-2 : tie.Need-slice-aggregate-fill-words-2
-slice-aggregate-fill-words-2 c =
-    let d = c .before .before .before .before in
-    let s = start d in
-    sym (held-length (parts s) (d .fill-words .ensures))
-
-fill-words-requires-2 : tie.Need-fill-words-requires-2
-fill-words-requires-2 c κs =
-    let d = c .before .before .before .before in
-    let s = start d in
-    over-fits (parts s) (d .fill-words .ensures)
+slice-aggregate-put-words-2 : tie.Need-slice-aggregate-put-words-2
+slice-aggregate-put-words-2 c = let d = c .before .before .before in sym (held-length (parts (start d)) (d .put-words .ensures))
 
 returns : tie.Need-returns
 returns c =
     let e = c .before .before in
     let d = e .before .before .before .before .before in
-    let s = start d in
-    part-over (parts s) (d .fill-words .ensures) (e .fill-words2 .ensures)
+    part-over (parts (start d)) (d .put-words .ensures) (e .put-words2 .ensures)
 
 pub copy-word-part-spec : {M : Type 1} → statement M
 copy-word-part-spec =
     tie.close
     (tie.spec
     (λ c. search needs)
-    slice-aggregate-fill-words
     (λ c. search needs)
     (λ c. search needs)
     (λ c. search needs)
     (λ c. search needs)
     (λ c. search needs)
-    fill-words-requires
+    slice-aggregate-put-words
+    (λ c κs. search needs)
+    (λ c. search needs)
+    slice-aggregate-put-words-2
     (λ c. search needs)
     (λ c. search needs)
     (λ c. search needs)
     (λ c. search needs)
     (λ c. search needs)
-    (λ c. search needs)
-    slice-aggregate-fill-words-2
-    fill-words-requires-2
+    (λ c κs. search needs)
     (λ c. search needs)
     (λ c. search needs)
     returns)

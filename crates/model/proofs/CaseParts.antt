@@ -10,11 +10,10 @@ use lib.Ieee.{Float, nan}
 use Rattle.laws.specs.Lists.{table, part, putPart}
 use Rattle.laws.proofs.Lists.{table-ext, table-set, part-at}
 use Rattle.laws.proofs.Outside.{SameOutside, part-part, part-before, part-after, getD-after, put-same, part-put}
 use Rattle.model.specs.declared.Row.{Row}
+use Rattle.model.specs.Case.{Case}
 use Rattle.model.specs.Words.{rowIn, rowAt, rowsIn, caseIn}
 use Rattle.model.proofs.ReadBack.{row-take}
-use Rattle.study.specs.Arrangement.{caseLength}
-use Rattle.study.specs.Change.{withRow}
 
 -- two places with the same 16 words have the same row
 row-same : (words words' : List ℕ) (a b : ℕ) (v : Float) → part a 16 words ≡ part b 16 words' → rowIn (drop a words) v ≡ rowIn (drop b words') v
@@ -28,22 +27,22 @@ row-within i n h = omega (arith, mul-le-mul-left 16 h, mul-suc 16 i)
 
 module _ (words : List ℕ) (speeds : List Float) (at from n : ℕ) where
   abbrev own : List ℕ
-  own = part at (caseLength n) words
+  own = part at (16 * n + 8) words
 
   abbrev ownSpeeds : List Float
   ownSpeeds = part from n speeds
 
   row-own : (i : ℕ) → i < n → rowAt words speeds at from i ≡ rowAt own ownSpeeds 0 0 i
   row-own i h =
-      let room : 16 * i + 16 ≤ caseLength n = omega (arith, row-within i n h) in
+      let room : 16 * i + 16 ≤ 16 * n + 8 = omega (arith, row-within i n h) in
       (λ j. rowIn (drop (at + 16 * i) words) ((sym (part-at speeds from n i nan h) ∙ ap (λ (m : ℕ). getD ownSpeeds m nan) (sym (zero-add i))) j))
       ∙ row-same words own (at + 16 * i) (0 + 16 * i) _
-      (sym (part-part at (caseLength n) (16 * i) 16 words room) ∙ ap (λ (m : ℕ). part m 16 own) (sym (zero-add (16 * i))))
+      (sym (part-part at (16 * n + 8) (16 * i) 16 words room) ∙ ap (λ (m : ℕ). part m 16 own) (sym (zero-add (16 * i))))
 
   total-own : (k : ℕ) → k < 8 → getD words (at + 16 * n + k) 0 ≡ getD own (0 + 16 * n + k) 0
   total-own k h =
       ap (λ (m : ℕ). getD words m 0) (regroup at (16 * n) k)
-      ∙ sym (part-at words at (caseLength n) (0 + 16 * n + k) 0 (omega arith))
+      ∙ sym (part-at words at (16 * n + 8) (0 + 16 * n + k) 0 (omega arith))
     where
       regroup : (a b c : ℕ) → a + b + c ≡ a + (0 + b + c)
       regroup a b c = omega arith
@@ -61,7 +60,7 @@ module _ (words : List ℕ) (speeds : List Float) (at from n : ℕ) where
 
 -- two places with the same words and speeds have the same case
 pub case-same : (words words' : List ℕ) (speeds speeds' : List Float) (at at' from from' n : ℕ)
-    → part at (caseLength n) words ≡ part at' (caseLength n) words' → part from n speeds ≡ part from' n speeds'
+    → part at (16 * n + 8) words ≡ part at' (16 * n + 8) words' → part from n speeds ≡ part from' n speeds'
     → caseIn words speeds at from n ≡ caseIn words' speeds' at' from' n
 case-same words words' speeds speeds' at at' from from' n e f =
     case-own words speeds at from n ∙ (λ j. caseIn (e j) (f j) 0 0 n) ∙ sym (case-own words' speeds' at' from' n)
@@ -71,6 +70,9 @@ case-same words words' speeds speeds' at at' from from' n e f =
 module _ (words : List ℕ) (speeds : List Float) (at from n i : ℕ) (ys : List ℕ) (h : i < n) (many : length ys ≡ 16) (room : at + 16 * n ≤ length words) where
   abbrev place : ℕ
   place = at + 16 * i
+
+  abbrev c : Case
+  c = caseIn words speeds at from n
 
   abbrev put : List ℕ
   put = putPart place 16 ys words
@@ -95,7 +97,7 @@ module _ (words : List ℕ) (speeds : List Float) (at from n i : ℕ) (ys : List
   total-kept : (m : ℕ) → at + 16 * n ≤ m → getD put m 0 ≡ getD words m 0
   total-kept m l = getD-after row-put-same m 0 (omega (arith, row-within i n h))
 
-  pub row-put : caseIn put speeds at from n ≡ withRow (caseIn words speeds at from n) i (rowIn ys (getD speeds (from + i) nan))
+  pub row-put : caseIn put speeds at from n ≡ record { rows = set (c .rows) i (rowIn ys (getD speeds (from + i) nan)); steps = c .steps; arrivals = c .arrivals; exits = c .exits; time = c .time }
   unfolding caseIn rowsIn
   row-put =
       λ j. record {

@@ -19,9 +19,9 @@ use Rattle.model.specs.Case.{rowOf}
 use Rattle.model.specs.Flow.{exitPart}
 use Rattle.model.specs.Step.{density, through, outflowNow, made, inflow, upstream, downstream, stepRow, exitNow}
 use Rattle.model.specs.Words.{netOf, rowIn, rowAt, rowsIn, rowWords, newRow, newWords, newSpeeds, stepWords, stepSpeeds}
-use Rattle.model.specs.Ready.{SegmentOk, Ready, FreshOk, afterIn, freshIn}
+use Rattle.model.specs.Ready.{Ready, FreshOk, afterIn, freshIn}
 use Rattle.model.proofs.SoundLaws.{row-read}
-use Rattle.model.proofs.SegmentLaws.{segment-ok, through-at-most-count, outflow-at-most-count, exit-le}
+use Rattle.model.proofs.SegmentLaws.{SegmentIn, segment-ok, through-at-most-count, outflow-at-most-count, exit-le}
 
 -- what the segment before i passes on, of the case in ws and vs
 abbrev pub inflowIn : List ℕ → List Float → ℕ → ℕ → ℕ → ℕ → ℕ
@@ -48,7 +48,7 @@ module _ {ws : List ℕ} {vs : List Float} {ds : List ℕ} {at from n : ℕ} (ok
   pub size-high : n ≤ 40
   size-high = omega (arith, ok .size, ok .net .head .size-high)
 
-  pub segment-at : (i : ℕ) → i < n → SegmentOk (headIn (netOf ws)) (segmentIn (netOf ws) i) (entryIn (netOf ws) (segmentIn (netOf ws) i .curve) 0)
+  pub segment-at : (i : ℕ) → i < n → SegmentIn (netOf ws) i
   segment-at i h = segment-ok (ok .net) i (at-size i h)
 
   pub words-each : (t k : ℕ) → k < n → length (newWords ws vs at from n t ds k) ≡ 16
@@ -60,6 +60,10 @@ module _ {ws : List ℕ} {vs : List Float} {ds : List ℕ} {at from n : ℕ} (ok
 
   pub speeds-room : from + 1 * n ≤ length vs
   speeds-room = omega (arith, ok .lane)
+
+  -- word 16 of row i and what follows it is the count of row i + 1
+  next-count : (i : ℕ) → getD (drop (at + 16 * i) ws) 16 0 ≡ getD (drop (at + 16 * (i + 1)) ws) 0 0
+  next-count i = getD-drop (at + 16 * i) ws 16 0 ∙ ap (λ (k : ℕ). getD ws k 0) (omega arith) ∙ sym (getD-drop (at + 16 * (i + 1)) ws 0 0)
 
   -- ---- before the first turn
   pub turn-none : (t : ℕ) → 0 < n → Turn ws vs ds at from n t ws vs 0 (getD vs from nan) 0
@@ -115,11 +119,8 @@ module _ {ws : List ℕ} {vs : List Float} {ds : List ℕ} {at from n : ℕ} (ok
     unfolding afterIn downstream density rowIn
     after-is h = go (ltb (i + 1) n) refl
       where
-        next : getD (drop (at + 16 * i) ws) 16 0 ≡ getD (drop (at + 16 * (i + 1)) ws) 0 0
-        next = getD-drop (at + 16 * i) ws 16 0 ∙ ap (λ (k : ℕ). getD ws k 0) (omega arith) ∙ sym (getD-drop (at + 16 * (i + 1)) ws 0 0)
-
         go : (b : Bool) → ltb (i + 1) n ≡ b → afterIn (netOf ws) (drop (at + 16 * i) ws) i n (segmentIn (netOf ws) i) (rowAt ws vs at from i .count) ≡ downstream (headIn (netOf ws)) (entryIn (netOf ws)) (segmentIn (netOf ws)) (rowsIn ws vs at from n) i
-        go true q = simp (← ok .size, q, row-is (i + 1) (ltb-true (i + 1) n q), next)
+        go true q = simp (← ok .size, q, row-is (i + 1) (ltb-true (i + 1) n q), next-count i)
         go false q = simp (← ok .size, q, row-is i h)
 
     fresh-is : i < n → freshIn (netOf words) (drop (at + 16 * i) words) (getD speeds (from + i) nan) (getD ds i 0) i n t passed before ≡ newRow ws vs at from n t ds i
@@ -128,10 +129,7 @@ module _ {ws : List ℕ} {vs : List Float} {ds : List ℕ} {at from n : ℕ} (ok
 
     next-high : i + 1 < n → getD (drop (at + 16 * i) ws) 16 0 ≤ 1000000000000
     unfolding rowIn
-    next-high h =
-        let e : getD (drop (at + 16 * i) ws) 16 0 ≡ getD (drop (at + 16 * (i + 1)) ws) 0 0 =
-        getD-drop (at + 16 * i) ws 16 0 ∙ ap (λ (k : ℕ). getD ws k 0) (omega arith) ∙ sym (getD-drop (at + 16 * (i + 1)) ws 0 0) in
-        le-trans (le-of-eq e) (ok .row (i + 1) h .count)
+    next-high h = le-trans (le-of-eq (next-count i)) (ok .row (i + 1) h .count)
 
     pub fresh-ok : i < n → FreshOk words (at + 16 * i) (getD speeds (from + i) nan) (getD ds i 0) i n passed
     fresh-ok h =

@@ -44,16 +44,9 @@ pub hold-spec : {M : Type 1} → statement M
 hold-spec =
     tie.close
     (tie.spec
-    (λ c κs. search needs)
-    (λ c. search needs)
-    (λ c. search needs)
-    returns
+    (λ c κs. search needs) (λ c. search needs) (λ c. search needs) returns
     (λ c. omega (arith, slot (c .before) .laid .room))
-    copy-words-requires
-    copy-speeds-requires
-    (λ c. omega (arith, slot (tested c) .high))
+    copy-words-requires copy-speeds-requires (λ c. omega (arith, slot (tested c) .high))
     (λ c. omega (arith, slot (tested c) .high))
     (λ c. omega (arith, slot (tested c) .high, slot (tested c) .laid .room))
-    (λ c. search needs)
-    (λ c. search needs)
-    returns-2)
+    (λ c. search needs) (λ c. search needs) returns-2)

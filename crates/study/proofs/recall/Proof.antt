@@ -44,13 +44,6 @@ pub recall-spec : {M : Type 1} → statement M
 recall-spec =
     tie.close
     (tie.spec
-    (λ c κs. search needs)
-    (λ c. search needs)
-    (λ c. search needs)
-    returns
+    (λ c κs. search needs) (λ c. search needs) (λ c. search needs) returns
     (λ c. omega (arith, slot (c .before) .laid .room))
-    copy-words-requires
-    copy-speeds-requires
-    (λ c. search needs)
-    (λ c. search needs)
-    returns-2)
+    copy-words-requires copy-speeds-requires (λ c. search needs) (λ c. search needs) returns-2)

@@ -47,22 +47,18 @@ pub segment-figures-spec : {M : Type 1} → statement M
 segment-figures-spec =
     tie.close
     (tie.spec
-    (λ c. search needs)
-    (λ c. search needs)
+    (λ c. search needs) (λ c. search needs)
     (λ c. omega (arith, word (c .before .before)))
     (λ c. omega (arith, word (c .before .before)))
     (λ c. search needs)
     (λ c. omega (arith, word (c .before .before), small (c .before .before)))
     (λ c. omega (arith, speed (c .before .before)))
     (λ c. omega (arith, speed (c .before .before), small (c .before .before)))
-    slice-aggregate-kept-segment
-    (λ c. search needs)
-    (λ c κs. search needs)
+    slice-aggregate-kept-segment (λ c. search needs) (λ c κs. search needs)
     (λ c. omega (arith, room (c .before .before .before .before)))
     (λ c. omega (arith, room (c .before .before .before .before)))
     (λ c. omega (arith, room (c .before .before .before .before)))
     (λ c. search needs)
     (λ c. let s = c .before .before .before .before .before in omega (arith, speed s, small s))
     (λ c. omega (arith, lane (c .before .before .before .before .before .before)))
-    row-figures-requires
-    returns)
+    row-figures-requires returns)

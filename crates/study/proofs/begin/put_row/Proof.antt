@@ -1,6 +1,9 @@
-use mathlib.Core.Path.{_≡_, _∙_}
+use Prim.Native.Nat.{ℕ}
+use mathlib.Core.Path.{_≡_, ap, _∙_}
+use mathlib.Core.List.{List}
 use lib.ListN.{take}
 use borrow.Author.Needs.{needs}
+use Rattle.network.specs.declared.Segment.{Segment}
 use Rattle.study.specs.Ready.{openWords}
 use Rattle.study.proofs.Beginning.{open-whole}
 use Rattle.study.proofs.begin.put_row.Statement.{statement}
@@ -22,5 +25,12 @@ pub put-row-spec : {M : Type 1} → statement M
 put-row-spec =
     tie.close
     (tie.spec
-    (λ c. search needs) (λ c κs. search needs) (λ c κs. search needs) (λ c κs. search needs) (λ c κs. search needs)
-    (λ c. search needs) (λ c κs. search needs) (λ c. search needs) returns)
+    (λ c. search needs)
+    (λ c κs. search needs)
+    (λ c κs. search needs)
+    (λ c κs. search needs)
+    (λ c κs. search needs)
+    (λ c. search needs)
+    (λ c κs. search needs)
+    (λ c. search needs)
+    returns)

@@ -18,11 +18,11 @@ pub called : {c : Call} {words : List ℕ} {speeds : List Float} {r : ℕ} {word
 called e p = record { number = e ∙ ap numberOf (p .answers); words-are = p .words-are; speeds-are = p .speeds-are }
 
 pub reported : {c : Call} {words : List ℕ} {speeds : List Float} {out out' : List ℕ} {r : ℕ} {x : Answer}
-    → r ≡ reportNumber x out → out' ≡ reportWords x out → Performs c words speeds x words speeds → Reported c words speeds out r out'
-reported {out = out} e f p =
+    → (r ≡ reportNumber x out) × (out' ≡ reportWords x out) → Performs c words speeds x words speeds → Reported c words speeds out r out'
+reported {out = out} e p =
     record {
-      number = e ∙ ap (λ (y : Answer). reportNumber y out) (p .answers);
-      figures-are = f ∙ ap (λ (y : Answer). reportWords y out) (p .answers);
+      number = e .0 ∙ ap (λ (y : Answer). reportNumber y out) (p .answers);
+      figures-are = e .1 ∙ ap (λ (y : Answer). reportWords y out) (p .answers);
       words-stay = p .words-are;
       speeds-stay = p .speeds-are;
     }
@@ -30,20 +30,13 @@ reported {out = out} e f p =
 -- ---- what a report puts into the words out
 
 module _ (out : List ℕ) where
-  pub refused-number : (m : ℕ) → m ≡ reportNumber (refused m) out
-  unfolding reportNumber first putNumber row
-  refused-number zero = sym (row-skipped _ _ _ (le-ltb (length out) 0 (omega arith)))
-  refused-number (suc m) = refl
+  pub refused-told : (m : ℕ) → (m ≡ reportNumber (refused m) out) × (out ≡ reportWords (refused m) out)
+  unfolding reportNumber reportWords first ifAccepted putNumber putFigures row
+  refused-told zero =
+      let none : row (ltb (length out) 0) 24 0 ≡ 0 = row-skipped _ _ _ (le-ltb (length out) 0 (omega arith)) in
+      (sym none, sym (when-accepted (row (ltb (length out) 0) 24 0) out out none))
+  refused-told (suc m) = (refl, refl)
 
-  pub refused-words : (m : ℕ) → out ≡ reportWords (refused m) out
-  unfolding reportWords ifAccepted putFigures putNumber
-  refused-words zero = sym (when-accepted (row (ltb (length out) 0) 24 0) out out (row-skipped _ _ _ (le-ltb (length out) 0 (omega arith))))
-  refused-words (suc m) = refl
-
-  pub figures-number : {r : ℕ} (xs : List ℕ) → r ≡ putNumber xs out → r ≡ reportNumber (figures xs) out
-  unfolding reportNumber first
-  figures-number xs e = e
-
-  pub figures-words : {out' : List ℕ} (xs : List ℕ) → out' ≡ putFigures xs out → out' ≡ reportWords (figures xs) out
-  unfolding reportWords ifAccepted
-  figures-words xs e = e
+  pub figures-told : {r : ℕ} {out' : List ℕ} (xs : List ℕ) → (r ≡ putNumber xs out) × (out' ≡ putFigures xs out) → (r ≡ reportNumber (figures xs) out) × (out' ≡ reportWords (figures xs) out)
+  unfolding reportNumber reportWords first ifAccepted
+  figures-told xs e = e

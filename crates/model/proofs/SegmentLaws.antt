@@ -3,12 +3,14 @@ use Prim.Native.Nat.{ℕ, _+_, _*_, _/_, _%_, _≤_, _<_, min, max}
 use native.Mathlib.Nat.{le-trans, le-of-eq, mul-comm, mul-assoc, mul-le-mul-left, mul-le-mul-right, div-le-of-le-mul}
 use native.Mathlib.Omega.{arith}
 use mathlib.Core.Bool.{Bool, true, false, cond, _&&_}
+use mathlib.Core.List.{List}
 use lib.Dec.{T, eqb, lit<, lit≤}
 use lib.Ieee.{Float, lt, le, toUnsigned}
 use Rattle.laws.specs.Real.{real}
 use Rattle.laws.proofs.Reals.{real-le, whole-high, truncating, Truncates}
 use Rattle.network.specs.declared.Head.{Head}
 use Rattle.network.specs.declared.Segment.{Segment}
+use Rattle.network.specs.Words.{headIn, entryIn, segmentIn}
 use Rattle.network.specs.Accepted.{RowsWithin}
 use Rattle.model.specs.declared.Row.{Row}
 use Rattle.model.specs.Case.{openKind, alineaKind}
@@ -37,6 +39,10 @@ segment-ok w i l =
       fast = e .start-high;
       reach = w .reach i l;
     }
+
+-- of a network that is kept in words
+abbrev pub SegmentIn : List ℕ → ℕ → Type 0
+SegmentIn net i = SegmentOk (headIn net) (segmentIn net i) (entryIn net (segmentIn net i .curve) 0)
 
 pub area-ok : {h : Head} {s : Segment} {f : ℕ} → SegmentOk h s f → AreaOk s
 area-ok S = record { metres-low = omega (arith, S .metres-low); metres-high = S .metres-high; lanes-low = S .lanes-low; lanes-high = S .lanes-high }

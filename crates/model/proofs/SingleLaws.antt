@@ -9,7 +9,7 @@ use lib.Dec.{ltb}
 use lib.ListN.{length, getD, length-take}
 use lib.Ieee.{Float}
 use borrow.Author.Tests.{lt-ltb, le-ltb, ltb-false}
-use Rattle.laws.specs.First.{row, first}
+use Rattle.laws.specs.First.{first}
 use Rattle.laws.proofs.First.{row-applies, row-skipped, row-passed, row-later, first-some, first-zero, first-zero-left, first-zero-right, when-accepted, when-refused}
 use Rattle.network.specs.Words.{headIn, entryIn, segmentIn, keptNumber}
 use Rattle.network.proofs.Keeping.{kept-within}

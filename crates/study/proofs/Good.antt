@@ -1,8 +1,7 @@
 -- What holds of every line of the book on a network w, from the start case s: its case is sound, its totals are those of its items, its
 -- vehicles balance, and its figures are bounded by its steps.
-use Prim.Native.Nat.{ℕ, _+_, _*_, _≤_}
+use Prim.Native.Nat.{_+_, _*_, _≤_}
 use mathlib.Core.Path.{_≡_}
-use mathlib.Core.List.{List}
 use lib.ListN.{length}
 use Rattle.network.specs.Network.{Network, networkNumber, entryOf, segmentOf}
 use Rattle.network.specs.Accepted.{Formed}

@@ -1,10 +1,9 @@
 -- From the number that the table gives to what a contract promises.
 use Prim.Native.Nat.{ℕ, zero, suc}
 use mathlib.Core.Path.{_≡_, refl, sym, ap, _∙_}
-use mathlib.Core.Bool.{Bool, true, false, _||_, not}
+use mathlib.Core.Bool.{true, false, _||_, not}
 use mathlib.Core.List.{List}
 use lib.Ieee.{Float}
-use Rattle.laws.specs.First.{row}
 use borrow.Author.Tests.{not-false}
 use Rattle.laws.proofs.First.{row-applies, row-skipped, row-passed}
 use Rattle.study.specs.Arrangement.{networkAt, runCountAt, caseAt}

@@ -19,7 +19,7 @@ use Rattle.laws.proofs.Tests.{inside-low, inside-high}
 use Rattle.network.specs.declared.Head.{Head}
 use Rattle.network.specs.declared.Segment.{Segment}
 use Rattle.network.specs.Network.{segmentOf}
-use Rattle.network.specs.Words.{headIn, entryIn, segmentIn}
+use Rattle.network.specs.Words.{entryIn, segmentIn}
 use Rattle.model.specs.declared.Row.{Row}
 use Rattle.model.specs.Case.{rowOf}
 use Rattle.model.specs.Words.{netOf, rowIn, rowAt, rowsIn, caseIn}
@@ -32,9 +32,9 @@ use Rattle.study.specs.declared.SegmentReport.the-variants as segmentRep
 use Rattle.study.specs.Arrangement.{caseWord, caseSpeed, networkAt, sizeAt, markAt, filledAt, caseAt}
 use Rattle.study.specs.Sound.{sound}
 use Rattle.study.specs.Ready.{Laid}
-use Rattle.study.specs.Calls.{Call, report, reportSegment, Answer, figures, caseSays, segmentSays}
+use Rattle.study.specs.Calls.{report, reportSegment, Answer, figures, caseSays, segmentSays}
 use Rattle.study.specs.Refusal.{askedNumber, refusal}
-use Rattle.study.specs.Perform.{Arrays, lent, isStart, refusalAt, caseFigures, segmentFigures}
+use Rattle.study.specs.Perform.{Arrays, lent, refusalAt, caseFigures, segmentFigures}
 use Rattle.study.specs.Figures.{figureAt, figuresAt, rowFigures, Summable, Reportable, Showable}
 use Rattle.study.proofs.Judging.{placed, size-high}
 use Rattle.study.proofs.Sounds.{laid, case-sound}

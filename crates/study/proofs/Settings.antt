@@ -11,8 +11,9 @@ use lib.ListN.{length}
 use lib.Ieee.{Float}
 use borrow.Author.Tests.{ltb-false, le-ltb}
 use Rattle.laws.specs.First.{outside, row}
-use Rattle.laws.proofs.First.{row-passed, row-later}
+use Rattle.laws.proofs.First.{row-applies, row-skipped, row-passed, row-later}
 use Rattle.laws.proofs.Tests.{or-right, inside-low, inside-high}
+use Rattle.network.specs.declared.Segment.{Segment}
 use Rattle.network.specs.Network.{networkFrom, segmentOf}
 use Rattle.study.specs.declared.Setting.{Setting}
 use Rattle.study.specs.Arrangement.{networkAt, sizeAt}
@@ -74,17 +75,50 @@ module _ (words : List ℕ) (speeds : List Float) (i : ℕ) where
 
     -- ---- the rows of the table
 
-    pub sign-judged : (limit : ℕ) (z : ℤ)
+    sign-judged : (limit : ℕ) (z : ℤ)
         → refusalAt (sign i limit z) (lent words speeds) ≡ row (outside 1 i (sizeAt words)) 17 (row (signRefused limit z) 18 0)
     unfolding refusal networkFrom
     sign-judged limit z = judged (sign i limit z) words speeds refl s
 
-    pub meter-judged : (m : Setting)
+    meter-judged : (m : Setting)
         → let w = segmentOf (networkAt words) (i - 1) in
         refusalAt (meter i m) (lent words speeds)
         ≡ row (outside 1 i (sizeAt words)) 17 (row (eqb i 1 || eqb (w .origin) 0) 19 (row (settingRefused (w .most) m) 20 0))
     unfolding refusal networkFrom
     meter-judged m = judged (meter i m) words speeds refl s
+
+    module _ (limit : ℕ) (z : ℤ) where
+      pub sign-missing : outside 1 i (sizeAt words) ≡ true → 17 ≡ refusalAt (sign i limit z) (lent words speeds)
+      sign-missing e = sym (sign-judged limit z ∙ row-applies _ _ _ e)
+
+      module _ (there : outside 1 i (sizeAt words) ≡ false) where
+        later : refusalAt (sign i limit z) (lent words speeds) ≡ row (signRefused limit z) 18 0
+        later = sign-judged limit z ∙ row-skipped _ _ _ there
+
+        pub sign-bad : signRefused limit z ≡ true → 18 ≡ refusalAt (sign i limit z) (lent words speeds)
+        sign-bad e = sym (later ∙ row-applies _ _ _ e)
+
+        pub sign-taken : signRefused limit z ≡ false → 0 ≡ refusalAt (sign i limit z) (lent words speeds)
+        sign-taken e = sym (later ∙ row-skipped _ _ _ e)
+
+    module _ (m : Setting) where
+      pub meter-missing : outside 1 i (sizeAt words) ≡ true → 17 ≡ refusalAt (meter i m) (lent words speeds)
+      meter-missing e = sym (meter-judged m ∙ row-applies _ _ _ e)
+
+      -- w is segment i, as the code read it
+      module _ (there : outside 1 i (sizeAt words) ≡ false) {w : Segment} (is : w ≡ segmentOf (networkAt words) (i - 1)) where
+        ramps : refusalAt (meter i m) (lent words speeds) ≡ row (eqb i 1 || eqb (w .origin) 0) 19 (row (settingRefused (w .most) m) 20 0)
+        ramps = rw is (meter-judged m ∙ row-skipped _ _ _ there)
+
+        pub meter-no-ramp : (eqb i 1 || eqb (w .origin) 0) ≡ true → 19 ≡ refusalAt (meter i m) (lent words speeds)
+        meter-no-ramp e = sym (ramps ∙ row-applies _ _ _ e)
+
+        module _ (ramp : (eqb i 1 || eqb (w .origin) 0) ≡ false) where
+          pub meter-bad : settingRefused (w .most) m ≡ true → 20 ≡ refusalAt (meter i m) (lent words speeds)
+          meter-bad e = sym (ramps ∙ row-skipped _ _ _ ramp ∙ row-applies _ _ _ e)
+
+          pub meter-taken : settingRefused (w .most) m ≡ false → 0 ≡ refusalAt (meter i m) (lent words speeds)
+          meter-taken e = sym (ramps ∙ row-skipped _ _ _ ramp ∙ row-skipped _ _ _ e)
 
   -- ---- what acceptance says
 

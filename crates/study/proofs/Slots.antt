@@ -1,26 +1,23 @@
 -- Hold, Recall and Drop: which row refuses them, and what their acceptance says.
 use Prim.Native.Nat.{ℕ, _+_, _≤_}
 use mathlib.Core.Path.{_≡_, refl, sym, ap, _∙_, subst}
-use mathlib.Core.Bool.{Bool, true, false, _&&_, _||_, not}
+use mathlib.Core.Bool.{Bool, true, false, _&&_, not}
 use mathlib.Core.List.{List}
-use native.Mathlib.Omega.{arith}
-use lib.Dec.{lit<, leb, eqb}
+use lib.Dec.{eqb}
 use lib.ListN.{getD, set}
-use lib.Seq.{getD-take}
 use lib.Ieee.{Float}
-use borrow.Author.Tests.{le-leb, eq-eqb, ne-eqb, not-false}
+use borrow.Author.Tests.{le-leb, eq-eqb, ne-eqb}
 use Rattle.laws.proofs.First.{row-applies, row-skipped, row-passed}
 use Rattle.laws.proofs.Tests.{inside-low, inside-high}
-use Rattle.network.specs.Words.{headIn}
 use Rattle.study.specs.Arrangement.{sizeAt, markAt, filledAt}
 use Rattle.study.specs.Sound.{sound}
-use Rattle.study.specs.Calls.{Call, hold, recall, dropSlot, accepted}
+use Rattle.study.specs.Calls.{hold, recall, dropSlot, accepted}
 use Rattle.study.specs.Refusal.{slotMissing, refusal}
-use Rattle.study.specs.Perform.{Arrays, isStart, refusalAt, copiedWords, copiedSpeeds, storedWords, storedSpeeds, answerOf, lent, Performs}
+use Rattle.study.specs.Perform.{Arrays, refusalAt, copiedWords, copiedSpeeds, storedWords, storedSpeeds, answerOf, lent, Performs}
 use Rattle.study.specs.Ready.{Laid}
 use Rattle.study.proofs.Network.{size-word}
 use Rattle.study.proofs.Sounds.{laid}
-use Rattle.study.proofs.Performing.{judged, accepts}
+use Rattle.study.proofs.Performing.{judged, accepts, accepted-sound}
 
 module _ (words : List ℕ) (speeds : List Float) (k : ℕ) where
   abbrev a : Arrays
@@ -62,10 +59,6 @@ module _ (words : List ℕ) (speeds : List Float) (k : ℕ) where
 
   -- ---- what acceptance says
 
-  pub accepted-sound : (c : Call) → isStart c ≡ false → refusalAt c a ≡ 0 → sound words speeds ≡ true
-  unfolding refusalAt
-  accepted-sound c p z = (λ j. sym p j || sound words speeds) ∙ not-false _ (row-passed _ _ _ z)
-
   -- a slot of a sound study, whose n is read where the code reads it
   pub record SlotAt : Type 0 where
     pub laid : Laid words speeds (getD words 1 0)
@@ -76,11 +69,11 @@ module _ (words : List ℕ) (speeds : List Float) (k : ℕ) where
 
   pub hold-slot : refusalAt (hold k) a ≡ 0 → SlotAt
   unfolding refusal
-  hold-slot z = let s = accepted-sound (hold k) refl z in slot-at s (row-passed (slotMissing k) _ _ (sym (judged (hold k) words speeds refl s) ∙ z))
+  hold-slot z = let s = accepted-sound (hold k) words speeds refl z in slot-at s (row-passed (slotMissing k) _ _ (sym (judged (hold k) words speeds refl s) ∙ z))
 
   pub recall-slot : refusalAt (recall k) a ≡ 0 → SlotAt
   unfolding refusal
-  recall-slot z = let s = accepted-sound (recall k) refl z in slot-at s (row-passed (slotMissing k) _ _ (sym (judged (recall k) words speeds refl s) ∙ z))
+  recall-slot z = let s = accepted-sound (recall k) words speeds refl z in slot-at s (row-passed (slotMissing k) _ _ (sym (judged (recall k) words speeds refl s) ∙ z))
 
   -- ---- what an accepted call leaves
 

@@ -1,9 +1,8 @@
 -- Start: which row refuses it, and what acceptance says.
-use Prim.Native.Nat.{ℕ, _+_, _*_, _≤_, _<_}
+use Prim.Native.Nat.{ℕ, _≤_, _<_}
 use mathlib.Core.Path.{_≡_, refl, sym, ap, _∙_, subst}
 use mathlib.Core.Bool.{Bool, true, false, _||_, not}
 use mathlib.Core.List.{List, [], _∷_}
-use native.Mathlib.Omega.{arith}
 use lib.Dec.{ltb, eqb, lit<}
 use lib.ListN.{length, getD}
 use lib.Ieee.{Float}
@@ -46,6 +45,17 @@ module _ (b : List ℕ) (z : fileNumber b ≡ 0) where
 
     abbrev pub uneven : Bool
     uneven = anyOf (not (eqb (length mvs) (headOf b .size)) ∷ not (eqb (length speeds) (headOf b .size)) ∷ not (eqb (length queues) (headOf b .size)) ∷ [])
+
+    -- lists of the network's length
+    pub lists-even : uneven ≡ false → Listed b mvs speeds queues
+    lists-even e =
+        let no = anyOf-false _ e in
+        record {
+          file = z;
+          mvs-many = eqb-true _ _ (not-false _ (no 0));
+          speeds-many = eqb-true _ _ (not-false _ (no 1));
+          queues-many = eqb-true _ _ (not-false _ (no 2));
+        }
 
     lists-are : startNumber (networkOf b) mvs speeds queues ≡ row uneven 13 (firstOf (startNumberOn b mvs speeds queues) (headOf b .size))
     unfolding startNumber networkFrom
@@ -94,15 +104,5 @@ module _ (words : List ℕ) (paces : List Float) (b mvs speeds queues : List ℕ
     pub start-lane : speedsFor (headOf b .size) ≤ length paces
     start-lane = ltb-false _ _ (or-right (ltb (length words) (wordsFor (headOf b .size))) (ltb (length paces) (speedsFor (headOf b .size))) (row-passed _ _ _ later))
 
-    even : uneven b start-file mvs speeds queues ≡ false
-    even = row-passed _ _ _ (sym (lists-are b start-file mvs speeds queues) ∙ row-later _ _ _ later)
-
     pub start-listed : Listed b mvs speeds queues
-    start-listed =
-        let no = anyOf-false _ even in
-        record {
-          file = start-file;
-          mvs-many = eqb-true _ _ (not-false _ (no 0));
-          speeds-many = eqb-true _ _ (not-false _ (no 1));
-          queues-many = eqb-true _ _ (not-false _ (no 2));
-        }
+    start-listed = lists-even b start-file mvs speeds queues (row-passed _ _ _ (sym (lists-are b start-file mvs speeds queues) ∙ row-later _ _ _ later))

@@ -27,12 +27,6 @@ returns-2 c =
     let number = sym (first-zero _ _ (accepted (c .before)) ∙ row-applies _ _ _ (lt-ltb _ _ (c .if2 .taken))) in
     (number, sym (when-refused _ _ _ (λ z. omega (arith, number ∙ z))))
 
-mul-place : tie.Need-mul-place
-mul-place c = omega (arith, curve-below _ _ (accepted (c .before)))
-
-add-place : tie.Need-add-place
-add-place c = omega (arith, curve-below _ _ (accepted (c .before)))
-
 returns-3 : tie.Need-returns-3
 unfolding placeNumber placeWords
 returns-3 c =
@@ -43,12 +37,7 @@ pub network-curve-spec : {M : Type 1} → statement M
 network-curve-spec =
     tie.close
     (tie.spec
-    (λ c κs. search needs)
-    returns
-    returns-2
-    mul-place
-    add-place
-    (λ c. search needs)
-    (λ c. search needs)
-    (λ c. search needs)
-    returns-3)
+    (λ c κs. search needs) returns returns-2
+    (λ c. omega (arith, curve-below _ _ (accepted (c .before))))
+    (λ c. omega (arith, curve-below _ _ (accepted (c .before))))
+    (λ c. search needs) (λ c. search needs) (λ c. search needs) returns-3)

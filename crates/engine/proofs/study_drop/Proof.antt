@@ -7,10 +7,4 @@ returns : tie.Need-returns
 returns c = called (c .number-of .ensures) (c .before .before .before .drop-slot .ensures)
 
 pub study-drop-spec : {M : Type 1} → statement M
-study-drop-spec =
-    tie.close
-    (tie.spec
-    (λ c κs. search needs)
-    (λ c κs. search needs)
-    (λ c. search needs)
-    returns)
+study-drop-spec = tie.close (tie.spec (λ c κs. search needs) (λ c κs. search needs) (λ c. search needs) returns)

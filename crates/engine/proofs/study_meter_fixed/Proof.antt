@@ -7,10 +7,4 @@ returns : tie.Need-returns
 returns c = called (c .number-of .ensures) (c .before .before .before .meter .ensures)
 
 pub study-meter-fixed-spec : {M : Type 1} → statement M
-study-meter-fixed-spec =
-    tie.close
-    (tie.spec
-    (λ c κs. search needs)
-    (λ c κs. search needs)
-    (λ c. search needs)
-    returns)
+study-meter-fixed-spec = tie.close (tie.spec (λ c κs. search needs) (λ c κs. search needs) (λ c. search needs) returns)

@@ -11,10 +11,4 @@ returns c =
     rw (toZ-ofZ w64 (a .args .compliance) (a .fits .compliance)) at (called (c .number-of .ensures) (c .before .before .before .sign .ensures))
 
 pub study-sign-spec : {M : Type 1} → statement M
-study-sign-spec =
-    tie.close
-    (tie.spec
-    (λ c κs. search needs)
-    (λ c κs. search needs)
-    (λ c. search needs)
-    returns)
+study-sign-spec = tie.close (tie.spec (λ c κs. search needs) (λ c κs. search needs) (λ c. search needs) returns)

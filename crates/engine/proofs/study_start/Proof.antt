@@ -8,10 +8,4 @@ returns c = called (c .number-of .ensures) (c .before .before .before .before .b
 
 pub study-start-spec : {M : Type 1} → statement M
 study-start-spec =
-    tie.close
-    (tie.spec
-    (λ c κs. search needs)
-    (λ c κs. search needs)
-    (λ c. search needs)
-    (λ c. search needs)
-    returns)
+    tie.close (tie.spec (λ c κs. search needs) (λ c κs. search needs) (λ c. search needs) (λ c. search needs) returns)

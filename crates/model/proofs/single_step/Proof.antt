@@ -25,9 +25,6 @@ returns c =
     let e = c .before .single-number .ensures in
     (e, (sym (words-stay _ _ _ (λ z. c .if1 .taken (e ∙ z))), sym (speeds-stay _ _ _ (λ z. c .if1 .taken (e ∙ z)))))
 
-slice-read-n : tie.Need-slice-read-n
-slice-read-n c = omega (arith, single-long _ _ _ (accepted (c .before)))
-
 step-requires : tie.Need-step-requires
 step-requires c κs =
     let d = c .before .before .before in
@@ -49,12 +46,6 @@ pub single-step-spec : {M : Type 1} → statement M
 single-step-spec =
     tie.close
     (tie.spec
-    (λ c κs. search needs)
-    (λ c. search needs)
-    (λ c. search needs)
-    returns
-    slice-read-n
-    step-requires
-    (λ c. search needs)
-    (λ c. search needs)
-    returns-2)
+    (λ c κs. search needs) (λ c. search needs) (λ c. search needs) returns
+    (λ c. omega (arith, single-long _ _ _ (accepted (c .before))))
+    step-requires (λ c. search needs) (λ c. search needs) returns-2)

@@ -25,9 +25,6 @@ vehicles-in-requires c κs =
     let s = c .before .before .before .before .before .before .before in
     ((size-high (s .pre .0), s .pre .0 .room), vehicles-high (s .pre .0))
 
-mul-add-totals-2 : tie.Need-mul-add-totals-2
-mul-add-totals-2 c = omega (arith, spent (c .before .before .before .before .before))
-
 add-totals-requires : tie.Need-add-totals-requires
 add-totals-requires c κs =
     let r = c .before .before .before .before .before in
@@ -51,21 +48,8 @@ pub step-spec : {M : Type 1} → statement M
 step-spec =
     tie.close
     (tie.spec
-    (λ c. search needs)
-    (λ c. search needs)
-    (λ c. search needs)
-    (λ c. search needs)
-    (λ c. search needs)
-    (λ c. search needs)
-    (λ c κs. search needs)
-    vehicles-in-requires
-    (λ c κs. search needs)
-    (λ c. search needs)
-    (λ c. search needs)
-    (λ c. search needs)
-    (λ c. search needs)
-    mul-add-totals-2
-    add-totals-requires
-    (λ c. search needs)
-    (λ c. search needs)
-    returns)
+    (λ c. search needs) (λ c. search needs) (λ c. search needs) (λ c. search needs) (λ c. search needs)
+    (λ c. search needs) (λ c κs. search needs) vehicles-in-requires (λ c κs. search needs) (λ c. search needs)
+    (λ c. search needs) (λ c. search needs) (λ c. search needs)
+    (λ c. omega (arith, spent (c .before .before .before .before .before)))
+    add-totals-requires (λ c. search needs) (λ c. search needs) returns)

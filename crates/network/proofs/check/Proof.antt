@@ -29,16 +29,10 @@ returns c =
     let e = c .before .head-number .ensures in
     e ∙ sym (file-head _ (λ z. c .if1 .taken (e ∙ z)))
 
-curve-rows-requires : tie.Need-curve-rows-requires
-curve-rows-requires c κs = omega (arith, sized c)
-
 returns-2 : tie.Need-returns-2
 returns-2 c =
     let e = curves (c .before) in
     e ∙ sym (file-curves _ (head-zero (c .before .before .before)) (λ z. c .if2 .taken (e ∙ z)))
-
-record-rows-requires : tie.Need-record-rows-requires
-record-rows-requires c κs = (sized (c .before .before), le-refl _)
 
 returns-3 : tie.Need-returns-3
 returns-3 c =
@@ -48,4 +42,7 @@ returns-3 c =
 pub check-spec : {M : Type 1} → statement M
 check-spec =
     tie.close
-    (tie.spec (λ c κs. search needs) returns (λ c κs. search needs) curve-rows-requires returns-2 record-rows-requires returns-3)
+    (tie.spec
+    (λ c κs. search needs) returns (λ c κs. search needs) (λ c κs. omega (arith, sized c)) returns-2
+    (λ c κs. (sized (c .before .before), le-refl _))
+    returns-3)

@@ -15,18 +15,6 @@ accepted c = sym (c .before .curve-number .ensures) ∙ c .if1 .left
 returns : tie.Need-returns
 returns c = sym (curve-bytes-none _ _ (λ z. c .before .if1 .taken (c .before .before .curve-number .ensures ∙ z)))
 
-mul-at : tie.Need-mul-at
-mul-at c = omega (arith, curve-below _ _ (accepted c))
-
-add-at : tie.Need-add-at
-add-at c = omega (arith, curve-below _ _ (accepted c))
-
-add-result : tie.Need-add-result
-add-result c = omega (arith, curve-below _ _ (accepted c))
-
-part-result-end-2 : tie.Need-part-result-end-2
-part-result-end-2 c = curve-ends _ _ (accepted c)
-
 returns-2 : tie.Need-returns-2
 returns-2 c =
     let a = c .before .before .before .before .args in
@@ -36,15 +24,8 @@ pub curve-spec : {M : Type 1} → statement M
 curve-spec =
     tie.close
     (tie.spec
-    (λ c κs. search needs)
-    (λ c. search needs)
-    (λ c. search needs)
-    (λ c. search needs)
-    returns
-    mul-at
-    add-at
-    add-result
-    (λ c. search needs)
-    (λ c. search needs)
-    part-result-end-2
-    returns-2)
+    (λ c κs. search needs) (λ c. search needs) (λ c. search needs) (λ c. search needs) returns
+    (λ c. omega (arith, curve-below _ _ (accepted c)))
+    (λ c. omega (arith, curve-below _ _ (accepted c)))
+    (λ c. omega (arith, curve-below _ _ (accepted c)))
+    (λ c. search needs) (λ c. search needs) (λ c. curve-ends _ _ (accepted c)) returns-2)

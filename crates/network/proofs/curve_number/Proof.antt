@@ -23,5 +23,4 @@ returns-3 c =
     sym (curve-call-some _ _ (accepted (c .before .before .before)) (rw (c .before .before .read-head .ensures) at (c .if2 .left)))
 
 pub curve-number-spec : {M : Type 1} → statement M
-curve-number-spec =
-    tie.close (tie.spec (λ c κs. search needs) returns (λ c κs. search needs) returns-2 returns-3)
+curve-number-spec = tie.close (tie.spec (λ c κs. search needs) returns (λ c κs. search needs) returns-2 returns-3)

@@ -21,18 +21,6 @@ returns c =
     let number = e ∙ sym (write-refused _ _ (λ z. c .if1 .taken (e ∙ z))) in
     (number, sym (write-stays _ _ (λ z. c .if1 .taken (number ∙ z))))
 
-mul-size : tie.Need-mul-size
-mul-size c = omega (arith, kept (c .before))
-
-add-size : tie.Need-add-size
-add-size c = omega (arith, kept (c .before))
-
-mul-size-2 : tie.Need-mul-size-2
-mul-size-2 c = omega (arith, kept (c .before .before))
-
-add-size-2 : tie.Need-add-size-2
-add-size-2 c = omega (arith, kept (c .before .before))
-
 returns-2 : tie.Need-returns-2
 returns-2 c =
     let head = c .before .before .before in
@@ -55,14 +43,8 @@ pub write-spec : {M : Type 1} → statement M
 write-spec =
     tie.close
     (tie.spec
-    (λ c κs. search needs)
-    returns
-    (λ c κs. search needs)
-    mul-size
-    add-size
-    mul-size-2
-    add-size-2
-    returns-2
-    put-network-requires
-    (λ c. search needs)
-    returns-3)
+    (λ c κs. search needs) returns (λ c κs. search needs) (λ c. omega (arith, kept (c .before)))
+    (λ c. omega (arith, kept (c .before)))
+    (λ c. omega (arith, kept (c .before .before)))
+    (λ c. omega (arith, kept (c .before .before)))
+    returns-2 put-network-requires (λ c. search needs) returns-3)

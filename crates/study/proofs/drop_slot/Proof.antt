@@ -24,11 +24,7 @@ pub drop-slot-spec : {M : Type 1} → statement M
 drop-slot-spec =
     tie.close
     (tie.spec
-    (λ c κs. search needs)
-    (λ c. search needs)
-    returns
-    (λ c. omega (arith, slot c .high))
+    (λ c κs. search needs) (λ c. search needs) returns (λ c. omega (arith, slot c .high))
     (λ c. omega (arith, slot c .high))
     (λ c. omega (arith, slot c .high, slot c .laid .room))
-    (λ c. search needs)
-    (λ c. dropped _ _ _ (accepted c)))
+    (λ c. search needs) (λ c. dropped _ _ _ (accepted c)))

@@ -28,12 +28,6 @@ tested c = copied (c .before .before .before .before .before .before)
 returns : tie.Need-returns
 returns c = refuses (hold _) _ _ (c .before .hold-number .ensures) (c .if1 .taken)
 
-copy-words-requires : tie.Need-copy-words-requires
-copy-words-requires c κs = let t = slot (c .before .before) in (size-high (t .laid), omega (arith, t .high), omega (arith, t .high), t .laid .room)
-
-copy-speeds-requires : tie.Need-copy-speeds-requires
-copy-speeds-requires c κs = let t = slot (copied (c .before .before .before)) in (size-high (t .laid), omega (arith, t .high), omega (arith, t .high), t .laid .lane)
-
 returns-2 : tie.Need-returns-2
 returns-2 c =
     let s = c .before .before in
@@ -44,16 +38,11 @@ pub hold-spec : {M : Type 1} → statement M
 hold-spec =
     tie.close
     (tie.spec
-    (λ c κs. search needs)
-    (λ c. search needs)
-    (λ c. search needs)
-    returns
+    (λ c κs. search needs) (λ c. search needs) (λ c. search needs) returns
     (λ c. omega (arith, slot (c .before) .laid .room))
-    copy-words-requires
-    copy-speeds-requires
+    (λ c κs. let t = slot (c .before .before) in (size-high (t .laid), omega arith, omega arith, t .laid .room))
+    (λ c κs. let t = slot (copied (c .before .before .before)) in (size-high (t .laid), omega arith, omega arith, t .laid .lane))
     (λ c. omega (arith, slot (tested c) .high))
     (λ c. omega (arith, slot (tested c) .high))
     (λ c. omega (arith, slot (tested c) .high, slot (tested c) .laid .room))
-    (λ c. search needs)
-    (λ c. search needs)
-    returns-2)
+    (λ c. search needs) (λ c. search needs) returns-2)

@@ -1,11 +1,9 @@
-use Prim.Native.Nat.{_+_, _-_}
-use mathlib.Core.Path.{_≡_, refl, sym, ap, _∙_}
+use Prim.Native.Nat.{_-_}
+use mathlib.Core.Path.{_≡_, refl, sym, _∙_}
 use native.Mathlib.Omega.{arith}
 use borrow.Author.Needs.{needs}
-use Rattle.laws.specs.Lists.{part}
 use Rattle.laws.proofs.Lists.{span}
 use Rattle.laws.proofs.Puts.{part-changed}
-use Rattle.network.specs.declared.Segment.{Segment}
 use Rattle.network.specs.Network.{segmentOf}
 use Rattle.study.specs.Arrangement.{networkAt}
 use Rattle.study.specs.Calls.{meter}
@@ -31,9 +29,6 @@ row-at c = c .before .before
 returns : tie.Need-returns
 returns c = refuses _ _ _ (c .before .meter-number .ensures) (c .if1 .taken)
 
-segment-at-requires : tie.Need-segment-at-requires
-segment-at-requires c κs = let w = within (c .before) in (omega (arith, w .room), w .low, w .high, w .small)
-
 returns-2 : tie.Need-returns-2
 unfolding storedWords storedSpeeds answerOf
 returns-2 c =
@@ -42,26 +37,15 @@ returns-2 c =
     let at = rowWord (a .i) in
     let q = segmentOf (networkAt (a .words .now)) (a .i - 1) .most in
     accepts _ _ _ (accepted (row-at e)) refl
-    (part-changed (a .words .now) _ (meteredWords q (a .setting)) at 16 _ (span at 16)
-    (c .before .before .put-setting .ensures ∙ ap (λ (w : Segment). meteredWords (w .most) (a .setting) (part at (at + 16 - at) (a .words .now))) (e .segment-at .ensures)))
+    (part-changed (a .words .now) _ (meteredWords q (a .setting)) at 16 _ (span at 16) (rw (e .segment-at .ensures) at (c .before .before .put-setting .ensures)))
     refl
 
 pub meter-spec : {M : Type 1} → statement M
 meter-spec =
     tie.close
     (tie.spec
-    (λ c κs. search needs)
-    (λ c. search needs)
-    returns
-    segment-at-requires
-    (λ c. within (row-at c) .low)
-    (λ c. omega (arith, within (row-at c)))
-    (λ c. omega (arith, within (row-at c)))
-    (λ c. omega (arith, within (row-at c)))
-    (λ c. omega (arith, within (row-at c)))
-    (λ c. search needs)
-    (λ c. search needs)
-    (λ c. omega (arith, within (row-at c)))
-    (λ c κs. search needs)
-    (λ c. search needs)
-    returns-2)
+    (λ c κs. search needs) (λ c. search needs) returns
+    (λ c κs. let w = within (c .before) in (omega (arith, w .room), w .low, w .high, w .small))
+    (λ c. within (row-at c) .low) (λ c. omega (arith, within (row-at c))) (λ c. omega (arith, within (row-at c)))
+    (λ c. omega (arith, within (row-at c))) (λ c. omega (arith, within (row-at c))) (λ c. search needs)
+    (λ c. search needs) (λ c. omega (arith, within (row-at c))) (λ c κs. search needs) (λ c. search needs) returns-2)

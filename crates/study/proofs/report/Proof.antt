@@ -17,9 +17,6 @@ accepted c = sym (c .before .case-number .ensures) ∙ c .if1 .left
 returns : tie.Need-returns
 returns c = refuses (report _) _ _ (c .before .case-number .ensures) (c .if1 .taken)
 
-shared-slice-read-case-figures : tie.Need-shared-slice-read-case-figures
-shared-slice-read-case-figures c = omega (arith, report-long _ _ _ (accepted (c .before)))
-
 case-figures-requires : tie.Need-case-figures-requires
 case-figures-requires c κs =
     let p = reportable _ _ _ (accepted (c .before)) in
@@ -36,4 +33,7 @@ returns-2 c =
 pub report-spec : {M : Type 1} → statement M
 report-spec =
     tie.close
-    (tie.spec (λ c κs. search needs) returns shared-slice-read-case-figures case-figures-requires returns-2)
+    (tie.spec
+    (λ c κs. search needs) returns
+    (λ c. omega (arith, report-long _ _ _ (accepted (c .before))))
+    case-figures-requires returns-2)

@@ -18,9 +18,6 @@ accepted c = sym (c .before .segment-number .ensures) ∙ c .if1 .left
 returns : tie.Need-returns
 returns c = refuses (reportSegment _ _) _ _ (c .before .segment-number .ensures) (c .if1 .taken)
 
-shared-slice-read-n : tie.Need-shared-slice-read-n
-shared-slice-read-n c = omega (arith, report-long _ _ _ (segment-accepted _ _ _ _ (accepted (c .before))))
-
 segment-figures-requires : tie.Need-segment-figures-requires
 segment-figures-requires c κs =
     let z = accepted (c .before) in
@@ -40,9 +37,7 @@ pub report-segment-spec : {M : Type 1} → statement M
 report-segment-spec =
     tie.close
     (tie.spec
-    (λ c κs. search needs)
-    returns
-    shared-slice-read-n
+    (λ c κs. search needs) returns
+    (λ c. omega (arith, report-long _ _ _ (segment-accepted _ _ _ _ (accepted (c .before)))))
     (λ c. segment-low _ _ _ _ (accepted (c .before)))
-    segment-figures-requires
-    returns-2)
+    segment-figures-requires returns-2)

@@ -20,12 +20,14 @@ returns : tie.Need-returns
 returns c =
     refuses reportRuns _ _ (unsound reportRuns _ _ refl (sym (c .before .sound .ensures) ∙ not-true _ (c .if1 .taken))) (λ z. omega (arith, z))
 
-shared-slice-read-t6 : tie.Need-shared-slice-read-t6
-shared-slice-read-t6 c = omega (arith, laid _ _ (fine (c .before)) .room)
-
 returns-2 : tie.Need-returns-2
 unfolding refusal answerOf storedWords storedSpeeds
 returns-2 c = accepts reportRuns _ _ (judged reportRuns _ _ refl (fine (c .before))) refl refl refl
 
 pub run-count-spec : {M : Type 1} → statement M
-run-count-spec = tie.close (tie.spec (λ c κs. search needs) returns shared-slice-read-t6 returns-2)
+run-count-spec =
+    tie.close
+    (tie.spec
+    (λ c κs. search needs) returns
+    (λ c. omega (arith, laid _ _ (fine (c .before)) .room))
+    returns-2)

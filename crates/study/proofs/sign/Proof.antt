@@ -1,12 +1,9 @@
-use Prim.Native.Nat.{_+_, _-_}
 use mathlib.Core.Path.{_≡_, refl, sym, ap, _∙_}
 use native.Mathlib.Omega.{arith}
-use lib.IntN.{ℤ}
 use mir.Syntax.{w64}
 use mir.Val.{toZ, ofZ}
 use mir.ValLaws.{toZ-ofZ}
 use borrow.Author.Needs.{needs}
-use Rattle.laws.specs.Lists.{part}
 use Rattle.laws.proofs.Lists.{span, length-part}
 use Rattle.laws.proofs.Puts.{part-changed}
 use Rattle.study.specs.Calls.{sign}
@@ -26,9 +23,7 @@ read s = toZ-ofZ w64 (s .args .compliance) (s .fits .compliance)
 
 number : (c : tie.After-sign-number)
     → let a = start c .args in c .sign-number .result ≡ refusalAt (sign (a .i) (a .limit) (a .compliance)) (lent (a .words .now) (a .speeds .now))
-number c =
-    let a = start c .args in
-    c .sign-number .ensures ∙ ap (λ (z : ℤ). refusalAt (sign (a .i) (a .limit) z) (lent (a .words .now) (a .speeds .now))) (read (start c))
+number c = rw (read (start c)) at (c .sign-number .ensures)
 
 accepted : (c : tie.Else1)
     → let a = start (c .before) .args in refusalAt (sign (a .i) (a .limit) (a .compliance)) (lent (a .words .now) (a .speeds .now)) ≡ 0
@@ -56,25 +51,13 @@ returns-2 c =
     let a = s .args in
     let at = rowWord (a .i) in
     accepts _ _ _ (accepted d) refl
-    (part-changed (a .words .now) _ (signedWords (a .limit) (a .compliance)) at 16 _ (span at 16)
-    (c .before .before .put-sign .ensures ∙ ap (λ (z : ℤ). signedWords (a .limit) z (part at (at + 16 - at) (a .words .now))) (read s)))
+    (part-changed (a .words .now) _ (signedWords (a .limit) (a .compliance)) at 16 _ (span at 16) (rw (read s) at (c .before .before .put-sign .ensures)))
     refl
 
 pub sign-spec : {M : Type 1} → statement M
 sign-spec =
     tie.close
     (tie.spec
-    (λ c κs. search needs)
-    (λ c. search needs)
-    returns
-    (λ c. within c .low)
-    (λ c. omega (arith, within c))
-    (λ c. omega (arith, within c))
-    (λ c. omega (arith, within c))
-    (λ c. omega (arith, within c))
-    (λ c. search needs)
-    (λ c. search needs)
-    (λ c. omega (arith, within c))
-    put-sign-requires
-    (λ c. search needs)
-    returns-2)
+    (λ c κs. search needs) (λ c. search needs) returns (λ c. within c .low) (λ c. omega (arith, within c))
+    (λ c. omega (arith, within c)) (λ c. omega (arith, within c)) (λ c. omega (arith, within c)) (λ c. search needs)
+    (λ c. search needs) (λ c. omega (arith, within c)) put-sign-requires (λ c. search needs) returns-2)

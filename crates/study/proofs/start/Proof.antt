@@ -1,19 +1,12 @@
 -- Refused, with both arrays as they came, or begun.
-use Prim.Native.Nat.{ℕ, _≤_}
 use mathlib.Core.Path.{_≡_, refl, sym, ap, _∙_}
-use mathlib.Core.List.{List, _++_}
 use native.Mathlib.Omega.{arith}
-use lib.ListN.{getD, drop}
-use lib.Ieee.{Float}
 use denote.Ref.{now}
 use borrow.Author.Needs.{needs}
-use Rattle.laws.specs.Lists.{table}
-use Rattle.laws.specs.Real.{real}
 use Rattle.network.specs.declared.Head.{Head}
 use Rattle.network.specs.File.{headOf}
 use Rattle.study.specs.Calls as calls
 use Rattle.study.specs.Perform.{lent, refusalAt, answerOf}
-use Rattle.study.specs.Ready.{beginWords}
 use Rattle.study.proofs.Performing.{refuses, accepts}
 use Rattle.study.proofs.Starting.{start-file, start-room, start-lane, start-listed}
 use Rattle.study.proofs.Beginning.{start-words, start-speeds}
@@ -52,26 +45,15 @@ unfolding answerOf
 returns-2 c =
     let made = c .before .before .before .before .before .before in
     let h = made .before .before in
-    let a = begin (h .before) .args in
     let z = taken (h .before) in
     let f = start-file _ _ _ _ _ _ z in
     accepts (calls.start _ _ _ _) _ _ z refl
-    (made .put-words .ensures ∙ ap (λ (n : ℕ). beginWords (now (a .file)) (now (a .mvs)) (now (a .queues)) n (now (a .words))) (size h) ∙ sym (start-words _ _ _ _ f _ _))
-    (c .before .before .put-speeds .ensures
-    ∙ ap (λ (n : ℕ). table (λ i. real (getD (now (a .starts)) i 0)) n ++ drop n (now (a .speeds))) (size h)
-    ∙ sym (start-speeds _ _ _ _ f _ _))
+    (rw (size h) at (made .put-words .ensures) ∙ sym (start-words _ _ _ _ f _ _))
+    (rw (size h) at (c .before .before .put-speeds .ensures) ∙ sym (start-speeds _ _ _ _ f _ _))
 
 pub start-spec : {M : Type 1} → statement M
 start-spec =
     tie.close
     (tie.spec
-    (λ c κs. search needs)
-    (λ c. search needs)
-    (λ c. search needs)
-    returns
-    (λ c κs. search needs)
-    put-words-requires
-    put-speeds-requires
-    (λ c. search needs)
-    (λ c. search needs)
-    returns-2)
+    (λ c κs. search needs) (λ c. search needs) (λ c. search needs) returns (λ c κs. search needs) put-words-requires
+    put-speeds-requires (λ c. search needs) (λ c. search needs) returns-2)

@@ -40,15 +40,10 @@ pub step-spec : {M : Type 1} → statement M
 step-spec =
     tie.close
     (tie.spec
-    (λ c κs. search needs)
-    (λ c. search needs)
-    (λ c. search needs)
-    returns
+    (λ c κs. search needs) (λ c. search needs) (λ c. search needs) returns
     (λ c. let d = c .before in omega (arith, step-long _ _ _ (is-sound d) (taken d)))
     (λ c. let d = c .before .before in omega (arith, step-long _ _ _ (is-sound d) (taken d)))
     (λ c κs. let d = c .before .before .before .before in (step-ready _ _ _ (is-sound d) (taken d), step-totals _ _ _ (is-sound d) (taken d)))
     (λ c. let d = c .before .before .before .before .before .before .before .before .before in omega (arith, runs-left _ _ _ (is-sound d) (taken d)))
     (λ c. let d = c .before .before .before .before .before .before .before .before .before in omega (arith, step-long _ _ _ (is-sound d) (taken d)))
-    (λ c. search needs)
-    (λ c. search needs)
-    returns-2)
+    (λ c. search needs) (λ c. search needs) returns-2)

@@ -49,16 +49,8 @@ pub write-spec : {M : Type 1} → statement M
 write-spec =
     tie.close
     (tie.spec
-    (λ c κs. search needs)
-    returns
-    slice-aggregate-net
-    (λ c κs. search needs)
-    (λ c. search needs)
-    returns-2
-    (λ c κs. search needs)
-    (λ c. omega (arith, within (c .before)))
-    (λ c. omega (arith, within (c .before)))
+    (λ c κs. search needs) returns slice-aggregate-net (λ c κs. search needs) (λ c. search needs) returns-2
+    (λ c κs. search needs) (λ c. omega (arith, within (c .before))) (λ c. omega (arith, within (c .before)))
     (λ c. omega (arith, within (c .before .before)))
     (λ c. omega (arith, within (c .before .before)))
-    (λ c. search needs)
-    returns-3)
+    (λ c. search needs) returns-3)

@@ -15,4 +15,6 @@ returns-2 c = sym (row-skipped _ _ _ (rw (c .before .before .before .kept-segmen
 
 pub arrival-number-spec : {M : Type 1} → statement M
 arrival-number-spec =
-    tie.close (tie.spec (λ c. search needs) (λ c κs. search needs) (λ c. search needs) (λ c. search needs) returns returns-2)
+    tie.close
+    (tie.spec
+    (λ c. search needs) (λ c κs. search needs) (λ c. search needs) (λ c. search needs) returns returns-2)

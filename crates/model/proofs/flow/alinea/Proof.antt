@@ -37,16 +37,6 @@ alinea-spec =
     tie.close
     (tie.spec
     (λ c. fits-mul 199 16000 (c .pre .0 .2) (c .pre .1 .1) tt)
-    (λ c. omega (arith, product c))
-    (λ c. search needs)
-    add-bounded
-    (λ c κs. search needs)
-    returns
-    (λ c. search needs)
+    (λ c. omega (arith, product c)) (λ c. search needs) add-bounded (λ c κs. search needs) returns (λ c. search needs)
     (λ c. fits-mul 60000 1000000000000 (omega arith) (omega arith) tt)
-    (λ c. search needs)
-    (λ c. search needs)
-    (λ c κs. search needs)
-    returns-2
-    (λ c κs. search needs)
-    returns-3)
+    (λ c. search needs) (λ c. search needs) (λ c κs. search needs) returns-2 (λ c κs. search needs) returns-3)

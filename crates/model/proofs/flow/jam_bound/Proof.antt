@@ -16,10 +16,6 @@ jam-bound-spec =
     tie.close
     (tie.spec
     (λ c. fits-mul 200 16000 (c .pre .1) (c .pre .4) tt)
-    (λ c. simp (le-leb _ _ (c .if1 .taken)))
-    (λ c. search needs)
-    mul-result
-    (λ c. search needs)
+    (λ c. simp (le-leb _ _ (c .if1 .taken))) (λ c. search needs) mul-result (λ c. search needs)
     (λ c. fits-mul 200 16000 (omega arith) (omega arith) tt)
-    (λ c. mul-pos (omega arith) (omega arith))
-    (λ c. simp (lt-leb _ _ (c .if1 .left))))
+    (λ c. mul-pos (omega arith) (omega arith)) (λ c. simp (lt-leb _ _ (c .if1 .left))))

@@ -10,6 +10,4 @@ outflow-spec =
     (tie.spec
     (λ c. fits-mul 1000000000000 200000 (c .pre .0) (c .pre .1) tt)
     (λ c. fits-mul 200000000000000000 60 (mul-le-mul (c .pre .0) (c .pre .1)) (c .pre .2) tt)
-    (λ c. search needs)
-    (λ c. search needs)
-    (λ c. search needs))
+    (λ c. search needs) (λ c. search needs) (λ c. search needs))

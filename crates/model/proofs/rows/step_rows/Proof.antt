@@ -22,149 +22,86 @@ Inv-loop words₀ speeds₀ arrivals at from n t i₀ before₀ passed₀ left�
 abbrev μ-loop : tie.MeasureT-loop
 μ-loop words₀ speeds₀ arrivals at from n t i₀ before₀ passed₀ left₀ words speeds i before passed left = n - i
 
--- ---- what holds at places, for the needs below
-abbrev entry : tie.In-loop Inv-loop μ-loop → tie.Start Inv-loop μ-loop
-entry c = c .before .before .before .before .before .before
+-- ---- places, and what holds at them
+abbrev start : tie.At-loop Inv-loop μ-loop → tie.Start Inv-loop μ-loop
+start l = l .before .before .before .before .before
+
+abbrev passed-on : tie.After-struct-known Inv-loop μ-loop → tie.In-loop Inv-loop μ-loop
+passed-on c = c .before .before .before .before .before .before .before
+
+abbrev stored : tie.After-slice-known5 Inv-loop μ-loop → tie.In-loop Inv-loop μ-loop
+stored c = passed-on (c .before .before .before .before)
 
 some : (s : tie.Start Inv-loop μ-loop) → 0 < s .args .n
 some s = omega (arith, s .pre .size, s .pre .net .head .size-low)
 
 -- the two arrays are as long as they were
-long : (c : tie.In-loop Inv-loop μ-loop)
-    → (length (c .before .loop .words) ≡ length (entry c .args .words .now)) × (length (c .before .loop .speeds) ≡ length (entry c .args .speeds .now))
-long c = lengths (entry c .pre) (c .before .loop .inv .0)
+long : (l : tie.At-loop Inv-loop μ-loop) → (length (l .loop .words) ≡ length (start l .args .words .now)) × (length (l .loop .speeds) ≡ length (start l .args .speeds .now))
+long l = lengths (start l .pre) (l .loop .inv .0)
 
 -- what `pass_on` asks of the row that `fresh` made
 passes : (c : tie.After-fresh Inv-loop μ-loop)
     → let l = c .before .before .before .before .before .loop in
     ((2560 ≤ length (l .words)) × (l .i < 40) × (c .fresh .result .outflow ≤ 1000000000000)) × (segmentIn (netOf (l .words)) (l .i) .exit ≤ 1000)
 passes c =
-    let at = c .before .before .before .before in
-    pass-ok (entry at .pre) (at .before .loop .inv .0) (at .loop-test .taken) (c .fresh .ensures)
+    let t = c .before .before .before .before in
+    pass-ok (start (t .before) .pre) (t .before .loop .inv .0) (t .loop-test .taken) (c .fresh .ensures)
+
+-- what left, by the exits and after the last segment
+all-left : (c : tie.After-loop Inv-loop μ-loop) → c .before .loop .left + c .before .loop .passed ≤ 41 * 1000000000000
+all-left c =
+    let ok = start (c .before) .pre in
+    let inv = c .before .loop .inv in
+    omega (arith, size-high ok, inv .0 .within, inv .1 .high, passed-high ok (inv .0))
 
 -- ---- the needs
-slice-read-before : tie.Need-slice-read-before Inv-loop μ-loop
-slice-read-before c = let s = c .before .before .before .before in omega (arith, some s, s .pre .lane)
-
 loop-holds : tie.Need-loop-holds Inv-loop μ-loop
-loop-holds c = let s = c .before .before .before .before in (turn-none (s .pre) _ (some s), sum-none _ 1000000000000)
-
-slice-read-v : tie.Need-slice-read-v Inv-loop μ-loop
-slice-read-v c = omega (arith, long (c .before))
-
-cast-d : tie.Need-cast-d Inv-loop μ-loop
-cast-d c = omega (arith, c .shared-slice-known2 .given (c .before .before .before .loop .i))
-
-fresh-requires : tie.Need-fresh-requires Inv-loop μ-loop
-fresh-requires c κs = let at = c .before .before .before in fresh-ok (entry at .pre) (at .before .loop .inv .0) (at .loop-test .taken)
-
-pass-on-requires : tie.Need-pass-on-requires Inv-loop μ-loop
-pass-on-requires c κs = passes (c .before)
-
-sub-left : tie.Need-sub-left Inv-loop μ-loop
-sub-left c = omega (arith, c .before .pass-on .ensures)
-
-add-left : tie.Need-add-left Inv-loop μ-loop
-add-left c =
-    let at = c .before .before .before .before .before .before .before in
-    omega (arith, size-high (entry at .pre), at .before .loop .inv .1 .high, passes (c .before .before .before) .0 .2)
-
-mul-store : tie.Need-mul-store Inv-loop μ-loop
-mul-store c = let at = c .before .before .before .before .before .before .before in omega (arith, entry at .pre, entry at .good)
-
-part-store-end : tie.Need-part-store-end Inv-loop μ-loop
-part-store-end c = let at = c .before .before .before .before .before .before .before in omega (arith, entry at .pre .room, long at)
-
-store-requires : tie.Need-store-requires Inv-loop μ-loop
-store-requires c κs =
-    let at = c .before .before .before .before .before .before .before .before in
-    simp (span, length-take, length-drop) (omega (arith, entry at .pre .room, long at))
-
-mul-speeds : tie.Need-mul-speeds Inv-loop μ-loop
-mul-speeds c =
-    let at = c .before .before .before .before .before .before .before .before .before .before .before in
-    omega (arith, entry at .pre, entry at .good)
-
-slice-write-speeds : tie.Need-slice-write-speeds Inv-loop μ-loop
-slice-write-speeds c =
-    let at = c .before .before .before .before .before .before .before .before .before .before .before in
-    omega (arith, entry at .pre .lane, long at)
-
-add-i : tie.Need-add-i Inv-loop μ-loop
-add-i c =
-    let at = c .before .before .before .before .before .before .before .before .before .before .before in
-    omega (arith, size-high (entry at .pre))
+loop-holds c = let s = c .before .before .before .before in (turn-none (s .pre) _ (some s), sum-none)
 
 loop-again : tie.Need-loop-again Inv-loop μ-loop
 loop-again c =
-    let at = c .before .before .before .before .before .before .before .before .before .before .before in
-    let ok = entry at .pre in
-    let inv = at .before .loop .inv in
+    let t = stored c in
+    let l = t .before in
+    let ok = start l .pre in
     let made = c .before .before .before .before .before .before .before in
     let pass = c .before .before .before .before .before .pass-on in (
-      turn-next ok (inv .0) (at .loop-test .taken) (made .fresh .ensures) (span (entry at .args .at + 16 * at .before .loop .i) 16) (c .before .before .store .ensures) (pass .ensures),
-      sum-more _ 1000000000000 (at .before .loop .i) (at .before .loop .left) _ (inv .1) (exit-is ok (inv .0) (at .loop-test .taken) (made .fresh .ensures) (pass .ensures)) (omega (arith, passes made .0 .2)),
+      turn-next ok (l .loop .inv .0) (t .loop-test .taken) (made .fresh .ensures) (span (start l .args .at + 16 * l .loop .i) 16) (c .before .before .store .ensures) (pass .ensures),
+      sum-more (l .loop .inv .1) (exit-is ok (l .loop .inv .0) (t .loop-test .taken) (made .fresh .ensures) (pass .ensures)) (omega (arith, passes made .0 .2)),
     )
-
-add-result : tie.Need-add-result Inv-loop μ-loop
-add-result c =
-    let s = c .before .before .before .before .before .before in
-    omega (arith, size-high (s .pre), c .before .loop .inv .0 .within, c .before .loop .inv .1 .high, passed-high (s .pre) (c .before .loop .inv .0))
-
-same-length : tie.Need-same-length Inv-loop μ-loop
-same-length c = lengths (c .before .before .before .before .before .before .pre) (c .before .loop .inv .0) .0
-
-same-length-2 : tie.Need-same-length-2 Inv-loop μ-loop
-same-length-2 c = lengths (c .before .before .before .before .before .before .pre) (c .before .loop .inv .0) .1
 
 returns : tie.Need-returns Inv-loop μ-loop
 returns c =
-    let s = c .before .before .before .before .before .before in
-    let a = s .args in
-    let ok = s .pre in
+    let a = start (c .before) .args in
+    let ok = start (c .before) .pre in
     let inv = c .before .loop .inv in
-    let e : c .before .loop .i ≡ s .args .n = omega (arith, inv .0 .within) in
+    let e : c .before .loop .i ≡ a .n = omega (arith, inv .0 .within) in
     let end = turn-end ok (inv .0) (c .loop-test .left) in
     record {
       makes = end .0;
       paces = end .1;
       leaves = λ j. (inv .1 .is ∙ ap (sumOf _) (e ∙ ok .size)) j + (inv .0 .passed-is ∙ ap (inflowIn (a .words .now) (a .speeds .now) (a .at) (a .from) (a .n)) (e ∙ ok .size)) j;
-      bound = omega (arith, size-high ok, inv .0 .within, inv .1 .high, passed-high ok (inv .0));
+      bound = all-left c;
     }
 
 pub step-rows-spec : {M : Type 1} → statement M
 step-rows-spec =
     tie.close
     (tie.spec
-    Inv-loop
-    μ-loop
-    (λ c. search needs)
-    slice-read-before
-    loop-holds
-    (λ c. search needs)
-    (λ c. search needs)
-    (λ c. search needs)
-    (λ c. search needs)
-    (λ c. search needs)
-    slice-read-v
-    (λ c. search needs)
-    (λ c. search needs)
-    cast-d
-    fresh-requires
-    pass-on-requires
-    sub-left
-    add-left
-    mul-store
-    (λ c. search needs)
-    (λ c. search needs)
-    part-store-end
-    store-requires
-    mul-speeds
-    slice-write-speeds
-    add-i
-    (λ c. search needs)
-    loop-again
-    add-result
-    same-length
-    same-length-2
-    returns)
+    Inv-loop μ-loop (λ c. search needs)
+    (λ c. let s = c .before .before .before .before in omega (arith, some s, s .pre .lane))
+    loop-holds (λ c. search needs) (λ c. search needs) (λ c. search needs) (λ c. search needs) (λ c. search needs)
+    (λ c. omega (arith, long (c .before .before))) (λ c. search needs) (λ c. search needs)
+    (λ c. omega (arith, c .shared-slice-known2 .given (c .before .before .before .loop .i)))
+    (λ c κs. let t = c .before .before .before in fresh-ok (start (t .before) .pre) (t .before .loop .inv .0) (t .loop-test .taken))
+    (λ c κs. passes (c .before))
+    (λ c. omega (arith, c .before .pass-on .ensures))
+    (λ c. let l = passed-on c .before in omega (arith, size-high (start l .pre), l .loop .inv .1 .high, passes (c .before .before .before) .0 .2))
+    (λ c. let s = start (passed-on c .before) in omega (arith, s .pre, s .good))
+    (λ c. search needs) (λ c. search needs)
+    (λ c. let l = passed-on c .before in omega (arith, start l .pre .room, long l))
+    (λ c κs. let l = passed-on (c .before) .before in simp (span, length-take, length-drop) (omega (arith, start l .pre .room, long l)))
+    (λ c. let s = start (stored c .before) in omega (arith, s .pre, s .good))
+    (λ c. let l = stored c .before in omega (arith, start l .pre .lane, long l))
+    (λ c. omega (arith, size-high (start (stored c .before) .pre)))
+    (λ c. search needs) loop-again
+    (λ c. omega (arith, all-left c)) (λ c. long (c .before) .0) (λ c. long (c .before) .1) returns)

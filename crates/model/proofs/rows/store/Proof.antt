@@ -6,9 +6,6 @@ use Rattle.model.specs.Words.{rowWords}
 use Rattle.model.proofs.rows.store.Statement.{statement}
 use Rattle.model.proofs.rows.store.Tie as tie
 
-slice-write-w-5 : tie.Need-slice-write-w-5
-slice-write-w-5 c = simp length-set (omega arith)
-
 returns : tie.Need-returns
 unfolding rowWords
 returns c = refl
@@ -17,10 +14,5 @@ pub store-spec : {M : Type 1} → statement M
 store-spec =
     tie.close
     (tie.spec
-    (λ c. search needs)
-    (λ c. search needs)
-    (λ c. search needs)
-    (λ c. search needs)
-    slice-write-w-5
-    (λ c. search needs)
-    returns)
+    (λ c. search needs) (λ c. search needs) (λ c. search needs) (λ c. search needs) (λ c. simp length-set (omega arith))
+    (λ c. search needs) returns)

@@ -40,15 +40,5 @@ pub after-of-spec : {M : Type 1} → statement M
 after-of-spec =
     tie.close
     (tie.spec
-    (λ c. search needs)
-    (λ c. search needs)
-    (λ c κs. search needs)
-    area-of-requires
-    (λ c. search needs)
-    density-of-requires
-    returns
-    mul-if2
-    (λ c κs. search needs)
-    returns-2
-    (λ c κs. search needs)
-    returns-3)
+    (λ c. search needs) (λ c. search needs) (λ c κs. search needs) area-of-requires (λ c. search needs)
+    density-of-requires returns mul-if2 (λ c κs. search needs) returns-2 (λ c κs. search needs) returns-3)

@@ -6,55 +6,48 @@ use lib.ListN.{length-drop}
 use lib.Seq.{length-take-le}
 use borrow.Author.Needs.{needs}
 use Rattle.laws.proofs.Lists.{rest-is}
-use Rattle.network.specs.Words.{headIn, entryIn, segmentIn}
 use Rattle.model.specs.Words.{netOf}
-use Rattle.model.specs.Ready.{SegmentOk, freshIn}
-use Rattle.model.proofs.SegmentLaws.{segment-ok, area-ok}
+use Rattle.model.specs.Ready.{freshIn}
+use Rattle.model.proofs.SegmentLaws.{SegmentIn, segment-ok, area-ok}
 use Rattle.model.proofs.segment.fresh.Statement.{statement}
 use Rattle.model.proofs.segment.fresh.Tie as tie
 
+-- ---- from each reading back to the one before it
+abbrev start : tie.After-kept-segment → tie.Start
+start c = c .before .before .before .before .before
+
+abbrev entry : tie.After-row-of → tie.After-kept-entry
+entry c = c .before
+
+abbrev segment : tie.After-row-of → tie.After-kept-segment
+segment c = c .before .before .before
+
 -- segment k of the network that is kept in the words
-judged :
-    (s : tie.Start) (k : _) → k < s .args .n →
-    let net = netOf (s .args .words .now) in
-    SegmentOk (headIn net) (segmentIn net k) (entryIn net (segmentIn net k .curve) 0)
+judged : (s : tie.Start) (k : _) → k < s .args .n → SegmentIn (netOf (s .args .words .now)) k
 judged s k l = segment-ok (s .pre .net) k (omega (arith, s .pre .size))
 
-slice-aggregate-net : tie.Need-slice-aggregate-net
-slice-aggregate-net c = let s = c .before .before in sym (length-take-le 2560 (s .args .words .now) (s .pre .long))
+-- and segment i
+own : (s : tie.Start) → SegmentIn (netOf (s .args .words .now)) (s .args .i)
+own s = judged s (s .args .i) (s .pre .more)
 
-cast-kept-entry : tie.Need-cast-kept-entry
-cast-kept-entry c =
-    let s = c .before .before .before .before .before .before in
-    let S = judged s (s .args .i) (s .pre .more) in
-    rw (c .before .kept-segment .ensures) (omega (arith, S .curve-high))
-
+-- ---- the needs
 area-of-requires : tie.Need-area-of-requires
-area-of-requires c κs =
-    let segment = c .before .before .before in
-    let s = segment .before .before .before .before .before in
-    let S = judged s (s .args .i) (s .pre .more) in
-    rw (segment .kept-segment .ensures) (area-ok S)
+area-of-requires c κs = rw (segment c .kept-segment .ensures) (area-ok (own (start (segment c))))
 
 after-of-requires : tie.Need-after-of-requires
 after-of-requires c κs =
     let row = c .before in
-    let segment = row .before .before .before in
-    let s = segment .before .before .before .before .before in
-    let q = s .pre in
-    let S = judged s (s .args .i) (q .more) in (
+    let s = start (segment row) in
+    let q = s .pre in (
       (omega (arith, q .size, q .net .head .size-high), q .more, simp (rest-is, length-drop) (omega (arith, q .room))),
       (
         (
           c .area-of .ensures .0,
           c .area-of .ensures .2,
-          rw (segment .kept-segment .ensures) (omega (arith, S .critical-high, S .jam-high)),
+          rw (segment row .kept-segment .ensures) (omega (arith, own s .critical-high, own s .jam-high)),
           simp (row .row-of .ensures, rest-is) (q .row .count),
         ),
-        (
-          simp rest-is (q .next),
-          λ l. area-ok (judged s (s .args .i + 1) l),
-        ),
+        (simp rest-is (q .next), λ l. area-ok (judged s (s .args .i + 1) l)),
       ),
     )
 
@@ -62,27 +55,20 @@ want-of-requires : tie.Need-want-of-requires
 want-of-requires c κs =
     let area = c .before in
     let row = area .before in
-    let entry = row .before in
-    let segment = entry .before .before in
-    let s = segment .before .before .before .before .before in
+    let s = start (segment row) in
     let q = s .pre in
-    let i = s .args .i in
-    let S = judged s i (q .more) in
-    let curve = q .net .curve _ (q .net .each i (omega (arith, q .size, q .more)) .curve-high) in (
-      (area .area-of .ensures .0, area .area-of .ensures .1, area .area-of .ensures .2, rw (segment .kept-segment .ensures) (S .curve-high)),
-      simp (entry .kept-entry .ensures, segment .kept-segment .ensures, row .row-of .ensures, rest-is) (curve, q .row),
+    let curve = q .net .curve _ (q .net .each (s .args .i) (omega (arith, q .size, q .more)) .curve-high) in (
+      (area .area-of .ensures .0, area .area-of .ensures .1, area .area-of .ensures .2, rw (segment row .kept-segment .ensures) (own s .curve-high)),
+      simp (entry row .kept-entry .ensures, segment row .kept-segment .ensures, row .row-of .ensures, rest-is) (curve, q .row),
     )
 
 make-requires : tie.Need-make-requires
 make-requires c κs =
     let row = c .before .before .before .before in
-    let entry = row .before in
-    let segment = entry .before .before in
-    let s = segment .before .before .before .before .before in
+    let s = start (segment row) in
     let q = s .pre in
-    let S = judged s (s .args .i) (q .more) in
-    simp (segment .before .kept-head .ensures, entry .kept-entry .ensures, segment .kept-segment .ensures, row .row-of .ensures, rest-is)
-    (q .net .head, (S, (q .row, (q .arrival, q .passed))))
+    simp (segment row .before .kept-head .ensures, entry row .kept-entry .ensures, segment row .kept-segment .ensures, row .row-of .ensures, rest-is)
+    (q .net .head, (own s, (q .row, (q .arrival, q .passed))))
 
 returns : tie.Need-returns
 unfolding freshIn
@@ -90,16 +76,14 @@ returns c =
     let merges = c .before in
     let after = merges .before .before in
     let row = after .before .before in
-    let entry = row .before in
-    let segment = entry .before .before in
     simp (
       c .make .ensures,
       merges .merges-at .ensures,
       merges .before .want-of .ensures,
       after .after-of .ensures,
-      segment .before .kept-head .ensures,
-      entry .kept-entry .ensures,
-      segment .kept-segment .ensures,
+      segment row .before .kept-head .ensures,
+      entry row .kept-entry .ensures,
+      segment row .kept-segment .ensures,
       row .row-of .ensures,
       rest-is,
     )
@@ -108,20 +92,9 @@ pub fresh-spec : {M : Type 1} → statement M
 fresh-spec =
     tie.close
     (tie.spec
-    slice-aggregate-net
-    (λ c. search needs)
-    (λ c. search needs)
-    (λ c. search needs)
-    (λ c. search needs)
-    (λ c κs. search needs)
-    (λ c. search needs)
-    (λ c κs. search needs)
-    cast-kept-entry
-    (λ c κs. search needs)
-    (λ c κs. search needs)
-    area-of-requires
-    after-of-requires
-    want-of-requires
-    (λ c κs. search needs)
-    make-requires
-    returns)
+    (λ c. let s = c .before .before in sym (length-take-le 2560 (s .args .words .now) (s .pre .long)))
+    (λ c. search needs) (λ c. search needs) (λ c. search needs) (λ c. search needs) (λ c κs. search needs)
+    (λ c. search needs) (λ c κs. search needs)
+    (λ c. rw (c .before .kept-segment .ensures) (omega (arith, own (start (c .before)) .curve-high)))
+    (λ c κs. search needs) (λ c κs. search needs)
+    area-of-requires after-of-requires want-of-requires (λ c κs. search needs) make-requires returns)

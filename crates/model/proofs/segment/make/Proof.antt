@@ -43,16 +43,6 @@ pub make-spec : {M : Type 1} → statement M
 make-spec =
     tie.close
     (tie.spec
-    (λ c κs. search needs)
-    (λ c κs. search needs)
-    (λ c. search needs)
-    (λ c κs. search needs)
-    (λ c κs. search needs)
-    (λ c κs. search needs)
-    (λ c κs. search needs)
-    new-speed-requires
-    add-t18
-    add-t19
-    (λ c. search needs)
-    (λ c. search needs)
-    returns)
+    (λ c κs. search needs) (λ c κs. search needs) (λ c. search needs) (λ c κs. search needs) (λ c κs. search needs)
+    (λ c κs. search needs) (λ c κs. search needs) new-speed-requires add-t18 add-t19 (λ c. search needs)
+    (λ c. search needs) returns)

@@ -4,9 +4,6 @@ use Rattle.model.proofs.SegmentLaws.{truncating-speed, whole-speed-high
 use Rattle.model.proofs.segment.outflow_of.Statement.{statement}
 use Rattle.model.proofs.segment.outflow_of.Tie as tie
 
-truncating-f64-to-u64-requires : tie.Need-truncating-f64-to-u64-requires
-truncating-f64-to-u64-requires c κs = let k = truncating-speed (c .pre .1 .0) (c .pre .1 .1) in (k .above, k .under)
-
 outflow-requires : tie.Need-outflow-requires
 outflow-requires c κs =
     let p = c .before .pre in
@@ -20,4 +17,8 @@ returns c =
     (e, rw e (outflow-at-most-count (p .1 .0) (p .1 .1)))
 
 pub outflow-of-spec : {M : Type 1} → statement M
-outflow-of-spec = tie.close (tie.spec truncating-f64-to-u64-requires outflow-requires returns)
+outflow-of-spec =
+    tie.close
+    (tie.spec
+    (λ c κs. let k = truncating-speed (c .pre .1 .0) (c .pre .1 .1) in (k .above, k .under))
+    outflow-requires returns)

@@ -5,12 +5,6 @@ use Rattle.model.proofs.SegmentLaws.{exit-le}
 use Rattle.model.proofs.segment.pass_on.Statement.{statement}
 use Rattle.model.proofs.segment.pass_on.Tie as tie
 
-slice-aggregate-kept-segment : tie.Need-slice-aggregate-kept-segment
-slice-aggregate-kept-segment c = let s = c .before .before in sym (length-take-le 2560 (s .args .words .now) (s .pre .0 .0))
-
-exit-part-requires : tie.Need-exit-part-requires
-exit-part-requires c κs = let p = c .before .before .before .pre in (p .0 .2, rw (c .kept-segment .ensures) (p .1))
-
 sub-result : tie.Need-sub-result
 sub-result c =
     let p = c .before .before .before .before .pre in
@@ -23,9 +17,7 @@ pub pass-on-spec : {M : Type 1} → statement M
 pass-on-spec =
     tie.close
     (tie.spec
-    slice-aggregate-kept-segment
-    (λ c. search needs)
-    (λ c κs. search needs)
-    exit-part-requires
-    sub-result
-    returns)
+    (λ c. let s = c .before .before in sym (length-take-le 2560 (s .args .words .now) (s .pre .0 .0)))
+    (λ c. search needs) (λ c κs. search needs)
+    (λ c κs. let p = c .before .before .before .pre in (p .0 .2, rw (c .kept-segment .ensures) (p .1)))
+    sub-result returns)

@@ -4,9 +4,6 @@ use Rattle.model.specs.Step.{rateNow, rateOf}
 use Rattle.model.proofs.segment.rate_of.Statement.{statement}
 use Rattle.model.proofs.segment.rate_of.Tie as tie
 
-rem-if2 : tie.Need-rem-if2
-rem-if2 c = c .before .before .before .pre .1 .interval (c .before .if1 .taken)
-
 returns : tie.Need-returns
 unfolding rateNow
 returns c =
@@ -26,4 +23,8 @@ unfolding rateNow rateOf
 returns-4 c = simp (ne-eqb _ _ (c .before .before .if1 .left), ne-eqb _ _ (c .if3 .left))
 
 pub rate-of-spec : {M : Type 1} → statement M
-rate-of-spec = tie.close (tie.spec rem-if2 (λ c κs. search needs) returns returns-2 returns-3 returns-4)
+rate-of-spec =
+    tie.close
+    (tie.spec
+    (λ c. c .before .before .before .pre .1 .interval (c .before .if1 .taken))
+    (λ c κs. search needs) returns returns-2 returns-3 returns-4)

@@ -22,8 +22,4 @@ pub sign-of-spec : {M : Type 1} → statement M
 sign-of-spec =
     tie.close
     (tie.spec
-    returns
-    (λ c. search needs)
-    (λ c. omega (arith, product c))
-    (λ c κs. omega (arith, product c))
-    returns-2)
+    returns (λ c. search needs) (λ c. omega (arith, product c)) (λ c κs. omega (arith, product c)) returns-2)

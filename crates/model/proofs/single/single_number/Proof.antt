@@ -81,21 +81,6 @@ pub single-number-spec : {M : Type 1} → statement M
 single-number-spec =
     tie.close
     (tie.spec
-    returns
-    slice-aggregate-net
-    (λ c κs. search needs)
-    returns-2
-    (λ c κs. search needs)
-    (λ c. omega (arith, small c))
-    (λ c. omega (arith, small c))
-    (λ c. omega (arith, small c))
-    returns-3
-    returns-4
-    (λ c κs. placed c)
-    returns-5
-    (λ c. search needs)
-    (λ c. search needs)
-    (λ c. search needs)
-    (λ c. search needs)
-    step-number-requires
-    returns-6)
+    returns slice-aggregate-net (λ c κs. search needs) returns-2 (λ c κs. search needs) (λ c. omega (arith, small c))
+    (λ c. omega (arith, small c)) (λ c. omega (arith, small c)) returns-3 returns-4 (λ c κs. placed c) returns-5
+    (λ c. search needs) (λ c. search needs) (λ c. search needs) (λ c. search needs) step-number-requires returns-6)

@@ -32,22 +32,7 @@ pub case-number-spec : {M : Type 1} → statement M
 case-number-spec =
     tie.close
     (tie.spec
-    (λ c κs. search needs)
-    returns
-    vehicles-in-requires
-    (λ c. search needs)
-    (λ c. search needs)
-    (λ c. search needs)
-    (λ c. search needs)
-    (λ c. search needs)
-    (λ c. search needs)
-    (λ c. search needs)
-    (λ c. search needs)
-    (λ c. search needs)
-    (λ c. search needs)
-    (λ c. search needs)
-    (λ c. search needs)
-    (λ c. search needs)
-    (λ c κs. search needs)
-    returns-2
-    returns-3)
+    (λ c κs. search needs) returns vehicles-in-requires (λ c. search needs) (λ c. search needs) (λ c. search needs)
+    (λ c. search needs) (λ c. search needs) (λ c. search needs) (λ c. search needs) (λ c. search needs)
+    (λ c. search needs) (λ c. search needs) (λ c. search needs) (λ c. search needs) (λ c. search needs)
+    (λ c κs. search needs) returns-2 returns-3)

@@ -9,50 +9,40 @@ use Rattle.network.specs.Words.{headIn, entryIn, segmentIn}
 use Rattle.model.specs.Case.{rowOf}
 use Rattle.model.specs.Step.{freeSpeed, merges}
 use Rattle.model.specs.Words.{netOf, rowsIn}
-use Rattle.model.specs.Ready.{SegmentOk}
 use Rattle.model.specs.Sound.{rowBad, rowNumber}
-use Rattle.model.proofs.SegmentLaws.{segment-ok}
+use Rattle.model.proofs.SegmentLaws.{SegmentIn, segment-ok}
 use Rattle.model.proofs.SoundLaws.{row-read}
 use Rattle.model.proofs.sound.row_number.Statement.{statement}
 use Rattle.model.proofs.sound.row_number.Tie as tie
 
-judged : (s : tie.Start) → let net = netOf (s .args .words .now) in SegmentOk (headIn net) (segmentIn net (s .args .i)) (entryIn net (segmentIn net (s .args .i) .curve) 0)
+judged : (s : tie.Start) → SegmentIn (netOf (s .args .words .now)) (s .args .i)
 judged s = segment-ok (s .pre .0 .net) (s .args .i) (omega (arith, s .pre .0 .size, s .pre .1))
 
-slice-aggregate-net : tie.Need-slice-aggregate-net
-slice-aggregate-net c =
-    let s = c .before .before .before in
-    sym (length-take-le 2560 (s .args .words .now) (omega (arith, s .pre .0 .past, s .pre .0 .room)))
+-- from the entry that was read, which is F, back to the segment and to the start
+abbrev segment : tie.After-kept-entry → tie.After-kept-segment
+segment c = c .before .before
 
-cast-kept-entry : tie.Need-cast-kept-entry
-cast-kept-entry c =
-    let s = c .before .before .before .before .before in
-    rw (c .before .kept-segment .ensures) (omega (arith, judged s .curve-high))
+abbrev start : tie.After-kept-segment → tie.Start
+start c = c .before .before .before .before
 
 row-bad-requires : tie.Need-row-bad-requires
 row-bad-requires c κs =
-    let entry = c .before .before .before .before in
-    let segment = entry .before .before in
-    let s = segment .before .before .before .before in
-    simp (entry .kept-entry .ensures, segment .kept-segment .ensures) (judged s .fast)
+    let free = c .before .before .before .before in
+    simp (free .kept-entry .ensures, segment free .kept-segment .ensures) (judged (start (segment free)) .fast)
 
 -- the value of the test
 tested :
     (c : tie.After-row-bad) →
-    let a = c .before .before .before .before .before .before .before .before .before .before .before .args in
+    let a = start (segment (c .before .before .before .before .before)) .args in
     let net = netOf (a .words .now) in
-    let h = headIn net in
-    let entry = entryIn net in
-    let segment = segmentIn net in
-    rowBad (merges h entry segment (a .i)) (segment (a .i)) (freeSpeed h entry segment (a .i)) (rowOf (rowsIn (a .words .now) (a .speeds .now) (a .at) (a .from) (a .n)) (a .i)) ≡ c .row-bad .result
+    rowBad (merges (headIn net) (entryIn net) (segmentIn net) (a .i)) (segmentIn net (a .i)) (freeSpeed (headIn net) (entryIn net) (segmentIn net) (a .i)) (rowOf (rowsIn (a .words .now) (a .speeds .now) (a .at) (a .from) (a .n)) (a .i)) ≡ c .row-bad .result
 tested c =
     let row = c .before .before in
-    let entry = row .before .before .before in
-    let segment = entry .before .before in
-    let s = segment .before .before .before .before in
+    let free = row .before .before .before in
+    let s = start (segment free) in
     sym
     (c .row-bad .ensures
-    ∙ simp (c .before .merges-at .ensures, entry .kept-entry .ensures, segment .kept-segment .ensures, row .row-of .ensures, rest-is, row-read (s .args .words .now) (s .args .speeds .now) (s .args .at) (s .args .from) (s .args .n) (s .args .i) (s .pre .1)))
+    ∙ simp (c .before .merges-at .ensures, free .kept-entry .ensures, segment free .kept-segment .ensures, row .row-of .ensures, rest-is, row-read (s .args .words .now) (s .args .speeds .now) (s .args .at) (s .args .from) (s .args .n) (s .args .i) (s .pre .1)))
 
 returns : tie.Need-returns
 unfolding rowNumber
@@ -66,22 +56,9 @@ pub row-number-spec : {M : Type 1} → statement M
 row-number-spec =
     tie.close
     (tie.spec
-    slice-aggregate-net
-    (λ c. search needs)
-    (λ c κs. search needs)
-    cast-kept-entry
-    (λ c κs. search needs)
-    (λ c. search needs)
-    (λ c. search needs)
-    (λ c. search needs)
-    (λ c. search needs)
-    (λ c. search needs)
-    (λ c. search needs)
-    (λ c. search needs)
-    (λ c. search needs)
-    (λ c. search needs)
-    (λ c κs. search needs)
-    (λ c κs. search needs)
-    row-bad-requires
-    returns
-    returns-2)
+    (λ c. let s = c .before .before .before in sym (length-take-le 2560 (s .args .words .now) (omega (arith, s .pre .0 .past, s .pre .0 .room))))
+    (λ c. search needs) (λ c κs. search needs)
+    (λ c. rw (c .before .kept-segment .ensures) (omega (arith, judged (start (c .before)) .curve-high)))
+    (λ c κs. search needs) (λ c. search needs) (λ c. search needs) (λ c. search needs) (λ c. search needs) (λ c. search needs)
+    (λ c. search needs) (λ c. search needs) (λ c. search needs) (λ c. search needs) (λ c κs. search needs)
+    (λ c κs. search needs) row-bad-requires returns returns-2)

@@ -1,10 +1,8 @@
 -- None of those passed is refused. The measure is how many are left.
-use Prim.Native.Nat.{_≤_, _-_}
-use mathlib.Core.Path.{_≡_}
+use Prim.Native.Nat.{_-_}
 use native.Mathlib.Omega.{arith}
 use borrow.Author.Needs.{needs}
-use Rattle.laws.specs.First.{firstOf}
-use Rattle.laws.proofs.First.{firstOf-none, firstOf-found, firstOf-passed, firstOf-end}
+use Rattle.laws.proofs.First.{Passed, passed-none, passed-found, passed-more, passed-end}
 use Rattle.network.specs.Words.{headIn, entryIn, segmentIn}
 use Rattle.model.specs.Words.{netOf, rowsIn}
 use Rattle.model.specs.Sound.{rowNumber}
@@ -12,40 +10,18 @@ use Rattle.model.proofs.sound.rows_number.Statement.{statement}
 use Rattle.model.proofs.sound.rows_number.Tie as tie
 
 abbrev Inv-loop : tie.InvT-loop
-Inv-loop words speeds at from n i₀ i = (i ≤ n) × (firstOf (rowNumber (headIn (netOf words)) (entryIn (netOf words)) (segmentIn (netOf words)) (rowsIn words speeds at from n)) i ≡ 0)
+Inv-loop words speeds at from n i₀ i = Passed (rowNumber (headIn (netOf words)) (entryIn (netOf words)) (segmentIn (netOf words)) (rowsIn words speeds at from n)) n i
 
 abbrev μ-loop : tie.MeasureT-loop
 μ-loop words speeds at from n i₀ i = n - i
-
-loop-holds : tie.Need-loop-holds Inv-loop μ-loop
-loop-holds c = (search needs, firstOf-none _)
-
-row-number-requires : tie.Need-row-number-requires Inv-loop μ-loop
-row-number-requires c κs = (c .before .before .before .before .pre, omega arith)
-
-returns : tie.Need-returns Inv-loop μ-loop
-returns c =
-    let l = c .before .before .before .loop in
-    firstOf-found _ _ (l .i) (c .before .before .loop-test .taken) (l .inv .1) (c .before .row-number .ensures) (c .if1 .taken)
-
-loop-again : tie.Need-loop-again Inv-loop μ-loop
-loop-again c =
-    let l = c .before .before .before .loop in
-    (search needs, firstOf-passed _ _ (l .inv .1) (c .before .row-number .ensures) (c .if1 .left))
-
-returns-2 : tie.Need-returns-2 Inv-loop μ-loop
-returns-2 c = firstOf-end _ _ _ (c .before .loop .inv .0) (c .loop-test .left) (c .before .loop .inv .1)
 
 pub rows-number-spec : {M : Type 1} → statement M
 rows-number-spec =
     tie.close
     (tie.spec
-    Inv-loop
-    μ-loop
-    loop-holds
-    row-number-requires
-    returns
-    (λ c. search needs)
-    (λ c. search needs)
-    loop-again
-    returns-2)
+    Inv-loop μ-loop (λ c. passed-none)
+    (λ c κs. (c .before .before .before .before .pre, omega arith))
+    (λ c. let t = c .before .before in passed-found (t .before .loop .inv) (t .loop-test .taken) (c .before .row-number .ensures) (c .if1 .taken))
+    (λ c. search needs) (λ c. search needs)
+    (λ c. let t = c .before .before in passed-more (t .before .loop .inv) (t .loop-test .taken) (c .before .row-number .ensures) (c .if1 .left))
+    (λ c. passed-end (c .before .loop .inv) (c .loop-test .left)))

@@ -17,10 +17,5 @@ pub anticipate-spec : {M : Type 1} → statement M
 anticipate-spec =
     tie.close
     (tie.spec
-    (λ c. search needs)
-    (λ c. omega (arith, over c))
-    (λ c κs. omega (arith, over c))
-    (λ c. omega (arith, under c))
-    (λ c κs. omega (arith, under c))
-    (λ c κs. search needs)
-    (λ c. cc))
+    (λ c. search needs) (λ c. omega (arith, over c)) (λ c κs. omega (arith, over c)) (λ c. omega (arith, under c))
+    (λ c κs. omega (arith, under c)) (λ c κs. search needs) (λ c. cc))

@@ -47,22 +47,7 @@ pub curve-speed-spec : {M : Type 1} → statement M
 curve-speed-spec =
     tie.close
     (tie.spec
-    (λ c. search needs)
-    (λ c. search needs)
-    (λ c κs. search needs)
-    whole-requires
-    returns
-    (λ c. search needs)
-    (λ c. search needs)
-    (λ c κs. search needs)
-    (λ c. search needs)
-    (λ c. search needs)
-    (λ c. search needs)
-    (λ c κs. search needs)
-    (λ c κs. omega (arith, high c))
-    sub-whole
-    (λ c. search needs)
-    (λ c. omega (arith, product c))
-    (λ c κs. omega (arith, product c))
-    (λ c κs. search needs)
-    returns-2)
+    (λ c. search needs) (λ c. search needs) (λ c κs. search needs) whole-requires returns (λ c. search needs)
+    (λ c. search needs) (λ c κs. search needs) (λ c. search needs) (λ c. search needs) (λ c. search needs)
+    (λ c κs. search needs) (λ c κs. omega (arith, high c)) sub-whole (λ c. search needs) (λ c. omega (arith, product c))
+    (λ c κs. omega (arith, product c)) (λ c κs. search needs) returns-2)

@@ -6,8 +6,7 @@ pub desired-spec : {M : Type 1} → statement M
 desired-spec =
     tie.close
     (tie.spec
-    (λ c. search needs)
-    (λ c. search needs)
+    (λ c. search needs) (λ c. search needs)
     (λ c. simp (c .before .before .sign .given .1, c .if1 .taken))
     (λ c. search needs)
     (λ c. simp (c .before .before .sign .given .1, c .if1 .left)))

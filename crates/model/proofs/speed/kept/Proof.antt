@@ -34,4 +34,5 @@ returns-5 c =
     simp (← t .before .before .whole .ensures, ← t .before .whole2 .ensures, t .if1 .left, c .if4 .left)
 
 pub kept-spec : {M : Type 1} → statement M
-kept-spec = tie.close (tie.spec (λ c κs. search needs) (λ c κs. search needs) returns returns-2 returns-3 returns-4 returns-5)
+kept-spec =
+    tie.close (tie.spec (λ c κs. search needs) (λ c κs. search needs) returns returns-2 returns-3 returns-4 returns-5)

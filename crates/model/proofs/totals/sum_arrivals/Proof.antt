@@ -15,36 +15,23 @@ abbrev μ-loop : tie.MeasureT-loop
 μ-loop arrivals n sum₀ i₀ sum i = n - i
 
 loop-holds : tie.Need-loop-holds Inv-loop μ-loop
-loop-holds c = (omega arith, sum-none _ _)
-
-cast-sum : tie.Need-cast-sum Inv-loop μ-loop
-cast-sum c = omega (arith, c .shared-slice-known .given (c .before .before .loop .i))
-
-add-sum : tie.Need-add-sum Inv-loop μ-loop
-add-sum c = omega (arith, c .shared-slice-known .given (c .before .before .loop .i))
+loop-holds c = (omega arith, sum-none)
 
 loop-again : tie.Need-loop-again Inv-loop μ-loop
 loop-again c =
     let l = c .before .before .loop in
-    (omega arith, sum-more _ _ (l .i) (l .sum) _ (l .inv .1) refl (omega (arith, c .shared-slice-known .given (l .i))))
+    (omega arith, sum-more (l .inv .1) refl (omega (arith, c .shared-slice-known .given (l .i))))
 
 returns : tie.Need-returns Inv-loop μ-loop
 returns c =
     let l = c .before .loop in
-    (sum-all _ _ _ _ _ (l .inv .1) (l .inv .0) (c .loop-test .left), omega arith)
+    (sum-all (l .inv .1) (l .inv .0) (c .loop-test .left), omega arith)
 
 pub sum-arrivals-spec : {M : Type 1} → statement M
 sum-arrivals-spec =
     tie.close
     (tie.spec
-    Inv-loop
-    μ-loop
-    loop-holds
-    (λ c. search needs)
-    (λ c. search needs)
-    cast-sum
-    add-sum
-    (λ c. search needs)
-    (λ c. search needs)
-    loop-again
-    returns)
+    Inv-loop μ-loop loop-holds (λ c. search needs) (λ c. search needs)
+    (λ c. omega (arith, c .shared-slice-known .given (c .before .before .loop .i)))
+    (λ c. omega (arith, c .shared-slice-known .given (c .before .before .loop .i)))
+    (λ c. search needs) (λ c. search needs) loop-again returns)

@@ -15,7 +15,7 @@ abbrev μ-loop : tie.MeasureT-loop
 μ-loop words at n sum₀ i₀ sum i = n - i
 
 loop-holds : tie.Need-loop-holds Inv-loop μ-loop
-loop-holds c = (omega arith, sum-none _ _)
+loop-holds c = (omega arith, sum-none)
 
 held : (c : tie.After-shared-slice-known2 Inv-loop μ-loop)
     → (let l = c .before .before .before in vehiclesAt (l .before .args .words .now) (l .before .args .at) (l .loop .i) ≤ 2000000000000)
@@ -24,30 +24,17 @@ held c = c .before .before .before .before .pre .1 _ (c .before .before .loop-te
 loop-again : tie.Need-loop-again Inv-loop μ-loop
 loop-again c =
     let l = c .before .before .before .loop in
-    (omega arith, sum-more _ _ (l .i) (l .sum) _ (l .inv .1) refl (held c))
+    (omega arith, sum-more (l .inv .1) refl (held c))
 
 returns : tie.Need-returns Inv-loop μ-loop
 returns c =
     let l = c .before .loop in
-    (sum-all _ _ _ _ _ (l .inv .1) (l .inv .0) (c .loop-test .left), omega arith)
+    (sum-all (l .inv .1) (l .inv .0) (c .loop-test .left), omega arith)
 
 pub vehicles-in-spec : {M : Type 1} → statement M
 vehicles-in-spec =
     tie.close
     (tie.spec
-    Inv-loop
-    μ-loop
-    loop-holds
-    (λ c. search needs)
-    (λ c. search needs)
-    (λ c. search needs)
-    (λ c. search needs)
-    (λ c. search needs)
-    (λ c. search needs)
-    (λ c. search needs)
-    (λ c. omega (arith, held c))
-    (λ c. omega (arith, held c))
-    (λ c. search needs)
-    (λ c. search needs)
-    loop-again
-    returns)
+    Inv-loop μ-loop loop-holds (λ c. search needs) (λ c. search needs) (λ c. search needs) (λ c. search needs)
+    (λ c. search needs) (λ c. search needs) (λ c. search needs) (λ c. omega (arith, held c))
+    (λ c. omega (arith, held c)) (λ c. search needs) (λ c. search needs) loop-again returns)

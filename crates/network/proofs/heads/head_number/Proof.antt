@@ -1,16 +1,17 @@
 use borrow.Author.Needs.{needs}
 use borrow.Author.Tests.{lt-ltb, le-ltb, eq-eqb, ne-eqb, not-true, not-false}
 use native.Mathlib.Omega.{arith}
-use mathlib.Core.Path.{_≡_, sym, _∙_}
-use mathlib.Core.Bool.{true, false, _||_}
+use mathlib.Core.Path.{_≡_, sym, ap, _∙_}
+use mathlib.Core.Bool.{true, false, _||_, not}
 use lib.Dec.{eqb, ltb}
 use lib.ListN.{length}
 use denote.Ref.{now}
 use Rattle.laws.specs.First.{row}
 use Rattle.laws.specs.BigEndian.{u16At}
+use Rattle.laws.proofs.First.{row-applies, row-skipped}
 use Rattle.laws.proofs.Tests.{or-left}
 use Rattle.network.specs.Network.{headBad}
-use Rattle.network.specs.File.{headNumber, headPadding, hasMark, headOf}
+use Rattle.network.specs.File.{headNumber, headPadding, hasMark, headOf, fileSize}
 use Rattle.network.specs.Accepted.{HeadWithin}
 use Rattle.network.proofs.Rows.{head-within}
 use Rattle.network.proofs.heads.head_number.Statement.{statement}
@@ -58,62 +59,31 @@ returns-4 c =
     let c2 = c3 .before .before in
     simp (long (c2 .before .before), marked c2, version c3, sym (tested (c .before)) ∙ c .if4 .taken)
 
-mul-if5 : tie.Need-mul-if5
-mul-if5 c = omega (arith, within (c .before))
-
-add-if5 : tie.Need-add-if5
-add-if5 c = omega (arith, within (c .before))
-
-mul-if5-2 : tie.Need-mul-if5-2
-mul-if5-2 c = omega (arith, within (c .before .before))
-
-add-if5-2 : tie.Need-add-if5-2
-add-if5-2 c = omega (arith, within (c .before .before))
+-- what is left of the table once row 4 is passed
+last-row : (c : tie.Else4) → let b = now (c .before .before .before .before .before .before .before .before .before .before .args .file) in headNumber b ≡ row (not (eqb (length b) (fileSize (headOf b)))) 5 0
+unfolding headNumber row
+last-row c =
+    let c3 = c .before .before .before .before in
+    let c2 = c3 .before .before in
+    simp (long (c2 .before .before), marked c2, version c3, sym (tested (c .before)) ∙ c .if4 .left)
 
 returns-5 : tie.Need-returns-5
-unfolding headNumber row
 returns-5 c =
     let c4 = c .before .before .before in
-    let c3 = c4 .before .before .before .before in
-    let c2 = c3 .before .before in
-    simp (
-      long (c2 .before .before),
-      marked c2,
-      version c3,
-      sym (tested (c4 .before)) ∙ c4 .if4 .left,
-      ne-eqb _ _ (λ e. c .if5 .taken (simp (c4 .before .before .before .read-head .ensures) e)),
-    )
+    sym (last-row c4 ∙ row-applies _ _ _ (ap not (ne-eqb _ _ (λ e. c .if5 .taken (simp (c4 .before .before .before .read-head .ensures) e)))))
 
 returns-6 : tie.Need-returns-6
-unfolding headNumber row
 returns-6 c =
     let c4 = c .before .before .before in
-    let c3 = c4 .before .before .before .before in
-    let c2 = c3 .before .before in
-    simp (
-      long (c2 .before .before),
-      marked c2,
-      version c3,
-      sym (tested (c4 .before)) ∙ c4 .if4 .left,
-      eq-eqb _ _ ((simp (c4 .before .before .before .read-head .ensures) at (c .if5 .left))),
-    )
+    sym (last-row c4 ∙ row-skipped _ _ _ (ap not (eq-eqb _ _ (simp (c4 .before .before .before .read-head .ensures) at (c .if5 .left)))))
 
 pub head-number-spec : {M : Type 1} → statement M
 head-number-spec =
     tie.close
     (tie.spec
-    returns
-    (λ c κs. search needs)
-    returns-2
-    (λ c κs. search needs)
-    returns-3
-    (λ c κs. search needs)
-    (λ c κs. search needs)
-    (λ c κs. search needs)
-    returns-4
-    mul-if5
-    add-if5
-    mul-if5-2
-    add-if5-2
-    returns-5
-    returns-6)
+    returns (λ c κs. search needs) returns-2 (λ c κs. search needs) returns-3 (λ c κs. search needs)
+    (λ c κs. search needs) (λ c κs. search needs) returns-4 (λ c. omega (arith, within (c .before)))
+    (λ c. omega (arith, within (c .before)))
+    (λ c. omega (arith, within (c .before .before)))
+    (λ c. omega (arith, within (c .before .before)))
+    returns-5 returns-6)

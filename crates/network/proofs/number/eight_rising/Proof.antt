@@ -1,8 +1,4 @@
 -- At each return: the tests that were passed, and the one that was not.
-use Prim.Native.Nat.{ℕ}
-use mathlib.Core.Path.{_≡_}
-use mathlib.Core.Bool.{false}
-use lib.Dec.{ltb}
 use borrow.Author.Tests.{lt-ltb, le-ltb}
 use Rattle.laws.specs.First.{row}
 use Rattle.network.proofs.number.eight_rising.Statement.{statement}

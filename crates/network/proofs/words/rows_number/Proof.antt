@@ -38,17 +38,11 @@ kept c =
 returns : tie.Need-returns
 returns c = sym (rows-head _ _ _ (fields (c .before) ∙ c .if1 .taken))
 
-curve-rows-requires : tie.Need-curve-rows-requires
-curve-rows-requires c κs = omega (arith, within c)
-
 returns-2 : tie.Need-returns-2
 returns-2 c =
     let c1 = c .before .before in
     let e = curves (c .before) in
     e ∙ sym (rows-curves _ _ _ (fields (c1 .before) ∙ c1 .if1 .left) (λ z. c .if2 .taken (e ∙ z)))
-
-segment-rows-requires : tie.Need-segment-rows-requires
-segment-rows-requires c κs = (kept c, le-refl _)
 
 returns-3 : tie.Need-returns-3
 returns-3 c =
@@ -62,10 +56,5 @@ pub rows-number-spec : {M : Type 1} → statement M
 rows-number-spec =
     tie.close
     (tie.spec
-    (λ c κs. search needs)
-    (λ c κs. search needs)
-    returns
-    curve-rows-requires
-    returns-2
-    segment-rows-requires
-    returns-3)
+    (λ c κs. search needs) (λ c κs. search needs) returns (λ c κs. omega (arith, within c)) returns-2
+    (λ c κs. (kept c, le-refl _)) returns-3)

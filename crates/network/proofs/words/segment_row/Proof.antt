@@ -35,9 +35,6 @@ returns : tie.Need-returns
 unfolding segmentNumber
 returns c = field-refused _ _ _ _ (fields (c .before) ∙ c .if1 .taken)
 
-entry-in-requires : tie.Need-entry-in-requires
-entry-in-requires c κs = omega (arith, within c, c .before .before .before .before .pre .0 .kept)
-
 too-fast-requires : tie.Need-too-fast-requires
 too-fast-requires c κs =
     let p = c .before .before .before .before .before .pre .0 in
@@ -60,10 +57,6 @@ pub segment-row-spec : {M : Type 1} → statement M
 segment-row-spec =
     tie.close
     (tie.spec
-    (λ c κs. search needs)
-    (λ c κs. search needs)
-    returns
-    entry-in-requires
-    too-fast-requires
-    returns-2
-    returns-3)
+    (λ c κs. search needs) (λ c κs. search needs) returns
+    (λ c κs. omega (arith, within c, c .before .before .before .before .pre .0 .kept))
+    too-fast-requires returns-2 returns-3)

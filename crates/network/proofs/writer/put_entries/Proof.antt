@@ -24,16 +24,10 @@ kept-length c = filled-length (λ k l. length-u32 _) (c .before .before .before 
 loop-holds : tie.Need-loop-holds Inv-loop μ-loop
 loop-holds c = filled-none (λ k l. length-u32 _) (c .before .before .pre .2)
 
-part-put-entry-end : tie.Need-part-put-entry-end Inv-loop μ-loop
-part-put-entry-end c = omega (arith, kept-length (c .before), c .before .before .before .before .pre)
-
 loop-again : tie.Need-loop-again Inv-loop μ-loop
 loop-again c =
     let l = c .before .before .before .before .before .before in
     filled-more (λ k h. length-u32 _) (l .before .before .before .pre .2) (l .loop .inv) (c .before .before .before .before .before .loop-test .taken) (span (16 + 4 * l .loop .j) 4) (c .before .before .put-entry .ensures)
-
-same-length : tie.Need-same-length Inv-loop μ-loop
-same-length c = kept-length (c .before)
 
 returns : tie.Need-returns Inv-loop μ-loop
 returns c = filled-all (λ k l. length-u32 _) (c .before .before .before .before .pre .2) (c .before .loop .inv) (c .loop-test .left)
@@ -42,21 +36,8 @@ pub put-entries-spec : {M : Type 1} → statement M
 put-entries-spec =
     tie.close
     (tie.spec
-    Inv-loop
-    μ-loop
-    loop-holds
+    Inv-loop μ-loop loop-holds (λ c. search needs) (λ c. search needs) (λ c. search needs) (λ c. search needs)
     (λ c. search needs)
-    (λ c. search needs)
-    (λ c. search needs)
-    (λ c. search needs)
-    (λ c. search needs)
-    part-put-entry-end
-    (λ c. search needs)
-    (λ c. search needs)
-    (λ c. search needs)
-    (λ c κs. search needs)
-    (λ c. search needs)
-    (λ c. search needs)
-    loop-again
-    same-length
-    returns)
+    (λ c. omega (arith, kept-length (c .before), c .before .before .before .before .pre))
+    (λ c. search needs) (λ c. search needs) (λ c. search needs) (λ c κs. search needs) (λ c. search needs)
+    (λ c. search needs) loop-again (λ c. kept-length (c .before)) returns)

@@ -10,5 +10,4 @@ returns c = c .before .before .copy .ensures .1 ∙ rw (c .before .before .befor
 
 pub put-entry-spec : {M : Type 1} → statement M
 put-entry-spec =
-    tie.close
-    (tie.spec (λ c κs. search needs) (λ c. search needs) (λ c κs. search needs) (λ c. search needs) returns)
+    tie.close (tie.spec (λ c κs. search needs) (λ c. search needs) (λ c κs. search needs) (λ c. search needs) returns)

@@ -23,18 +23,12 @@ kept-length c = filled-length (λ k l. length-segment-bytes _) (c .before .befor
 loop-holds : tie.Need-loop-holds Inv-loop μ-loop
 loop-holds c = filled-none (λ k l. length-segment-bytes _) (c .before .before .pre .2)
 
-part-put-segment-end : tie.Need-part-put-segment-end Inv-loop μ-loop
-part-put-segment-end c = omega (arith, kept-length (c .before .before), c .before .before .before .before .before .pre)
-
 loop-again : tie.Need-loop-again Inv-loop μ-loop
 loop-again c =
     let l = c .before .before .before .before .before .before in
     let s = l .before .before .before in
     filled-more (λ k h. length-segment-bytes _) (s .pre .2) (l .loop .inv) (c .before .before .before .before .before .loop-test .taken) (span (s .args .at + 16 * l .loop .i) 16)
     (c .before .before .put-segment .ensures ∙ rw (c .before .before .before .before .segment-in .ensures))
-
-same-length : tie.Need-same-length Inv-loop μ-loop
-same-length c = kept-length (c .before)
 
 returns : tie.Need-returns Inv-loop μ-loop
 returns c = filled-all (λ k l. length-segment-bytes _) (c .before .before .before .before .pre .2) (c .before .loop .inv) (c .loop-test .left)
@@ -43,19 +37,7 @@ pub put-segments-spec : {M : Type 1} → statement M
 put-segments-spec =
     tie.close
     (tie.spec
-    Inv-loop
-    μ-loop
-    loop-holds
-    (λ c. search needs)
-    (λ c. search needs)
-    (λ c κs. search needs)
-    (λ c. search needs)
-    (λ c. search needs)
-    (λ c. search needs)
-    part-put-segment-end
-    (λ c κs. search needs)
-    (λ c. search needs)
-    (λ c. search needs)
-    loop-again
-    same-length
-    returns)
+    Inv-loop μ-loop loop-holds (λ c. search needs) (λ c. search needs) (λ c κs. search needs) (λ c. search needs)
+    (λ c. search needs) (λ c. search needs)
+    (λ c. omega (arith, kept-length (c .before .before), c .before .before .before .before .before .pre))
+    (λ c κs. search needs) (λ c. search needs) (λ c. search needs) loop-again (λ c. kept-length (c .before)) returns)

@@ -5,7 +5,7 @@ use native.Mathlib.Omega.{arith}
 use lib.ListN.{length}
 use denote.Ref.{now}
 use borrow.Author.Needs.{needs}
-use Rattle.laws.proofs.Lists.{span, length-part}
+use Rattle.laws.proofs.Lists.{span}
 use Rattle.laws.proofs.Puts.{Filled, filled-none, filled-more, filled-length, filled-all}
 use Rattle.study.specs.Ready.{openWordsOn}
 use Rattle.study.proofs.Beginning.{length-open, whole, part-long}
@@ -27,9 +27,6 @@ kept-length c = filled-length (λ k l. length-open _ _ _) (start c .pre .3) (c .
 loop-holds : tie.Need-loop-holds Inv-loop μ-loop
 loop-holds c = filled-none (λ k l. length-open _ _ _) (c .before .before .before .before .pre .3)
 
-part-put-row-end : tie.Need-part-put-row-end Inv-loop μ-loop
-part-put-row-end c = let l = c .before in omega (arith, kept-length l, start l .pre .3, c .loop-test .taken)
-
 put-row-requires : tie.Need-put-row-requires Inv-loop μ-loop
 put-row-requires c κs =
     let l = c .before .before in
@@ -47,9 +44,6 @@ loop-again c =
     filled-more (λ k h. length-open _ _ _) (start l .pre .3) (l .loop .inv) (c .before .before .before .before .loop-test .taken) (span to 16)
     (c .before .before .put-row .ensures ∙ whole _ (l .loop .words) to _ (span to 16))
 
-same-length : tie.Need-same-length Inv-loop μ-loop
-same-length c = kept-length (c .before)
-
 returns : tie.Need-returns Inv-loop μ-loop
 returns c = let l = c .before in filled-all (λ k h. length-open _ _ _) (start l .pre .3) (l .loop .inv) (c .loop-test .left)
 
@@ -57,19 +51,7 @@ pub put-rows-spec : {M : Type 1} → statement M
 put-rows-spec =
     tie.close
     (tie.spec
-    Inv-loop
-    μ-loop
-    loop-holds
-    (λ c. search needs)
-    (λ c. search needs)
-    (λ c. search needs)
-    (λ c. search needs)
-    (λ c. search needs)
-    (λ c. search needs)
-    part-put-row-end
-    put-row-requires
-    (λ c. search needs)
-    (λ c. search needs)
-    loop-again
-    same-length
-    returns)
+    Inv-loop μ-loop loop-holds (λ c. search needs) (λ c. search needs) (λ c. search needs) (λ c. search needs)
+    (λ c. search needs) (λ c. search needs)
+    (λ c. let l = c .before in omega (arith, kept-length l, start l .pre .3, c .loop-test .taken))
+    put-row-requires (λ c. search needs) (λ c. search needs) loop-again (λ c. kept-length (c .before)) returns)

@@ -1,6 +1,6 @@
 -- The first i speeds are written. The measure is how many are left.
-use Prim.Native.Nat.{ℕ, _+_, _-_}
-use mathlib.Core.Path.{_≡_, refl, sym, ap, _∙_}
+use Prim.Native.Nat.{ℕ, _-_}
+use mathlib.Core.Path.{_≡_, sym, ap, _∙_}
 use mathlib.Core.List.{List, _++_}
 use native.Mathlib.Nat.{zero-add}
 use native.Mathlib.Omega.{arith}
@@ -36,9 +36,6 @@ loop-again c =
     let more = c .before .before .loop-test .taken in
     stored-more (length-table _ _) (omega (arith, l .before .pre .1)) (l .loop .inv) nan more (sym (zero-add _)) (sym (getD-table _ _ _ nan more))
 
-same-length : tie.Need-same-length Inv-loop μ-loop
-same-length c = kept-length (c .before)
-
 returns : tie.Need-returns Inv-loop μ-loop
 returns c =
     let s = c .before .before in
@@ -50,16 +47,5 @@ pub put-speeds-spec : {M : Type 1} → statement M
 put-speeds-spec =
     tie.close
     (tie.spec
-    Inv-loop
-    μ-loop
-    loop-holds
-    (λ c. search needs)
-    (λ c. search needs)
-    (λ c. search needs)
-    (λ c. search needs)
-    slice-write-speeds
-    (λ c. search needs)
-    (λ c. search needs)
-    loop-again
-    same-length
-    returns)
+    Inv-loop μ-loop loop-holds (λ c. search needs) (λ c. search needs) (λ c. search needs) (λ c. search needs)
+    slice-write-speeds (λ c. search needs) (λ c. search needs) loop-again (λ c. kept-length (c .before)) returns)

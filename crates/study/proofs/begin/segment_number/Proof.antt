@@ -1,4 +1,3 @@
-use Prim.Native.Nat.{ℕ, _≤_, _<_}
 use mathlib.Core.Path.{_≡_, sym, ap, _∙_, subst}
 use native.Mathlib.Omega.{arith}
 use borrow.Author.Needs.{needs}
@@ -16,9 +15,6 @@ within : (c : tie.After-segment-of) → let s = c .before .before .before .befor
 within c =
     let s = c .before .before .before .before .before in
     subst (λ (x : Segment). SegmentWithin (headOf (s .args .file .now)) (s .args .i) x) (sym (c .segment-of .ensures)) (segment-on _ (s .pre .0 .file) _ (s .pre .1))
-
-cast-segment-of : tie.Need-cast-segment-of
-cast-segment-of c = let s = c .before .before .before .before in omega (arith, size-high _ (s .pre .0 .file), s .pre .1)
 
 cast-entry-of : tie.Need-cast-entry-of
 cast-entry-of c =
@@ -44,12 +40,9 @@ pub segment-number-spec : {M : Type 1} → statement M
 segment-number-spec =
     tie.close
     (tie.spec
-    cast-segment-of
-    (λ c κs. search needs)
-    cast-entry-of
-    (λ c κs. search needs)
+    (λ c. let s = c .before .before .before .before in omega (arith, size-high _ (s .pre .0 .file), s .pre .1))
+    (λ c κs. search needs) cast-entry-of (λ c κs. search needs)
     (λ c κs. let s = c .before .before .before .before .before .before .before in omega (arith, s .pre .0 .mvs-many, s .pre .1))
     (λ c κs. let s = c .before .before .before .before .before .before .before .before in omega (arith, s .pre .0 .speeds-many, s .pre .1))
     (λ c κs. let s = c .before .before .before .before .before .before .before .before .before in omega (arith, s .pre .0 .queues-many, s .pre .1))
-    value-number-requires
-    returns)
+    value-number-requires returns)

@@ -7,12 +7,6 @@ use Rattle.study.specs.Start.{startSegmentNumber}
 use Rattle.study.proofs.begin.value_number.Statement.{statement}
 use Rattle.study.proofs.begin.value_number.Tie as tie
 
-mul-full : tie.Need-mul-full
-mul-full c = let p = c .before .pre in fits-mul 2000 8 (p .1) (p .2) tt
-
-mul-full-2 : tie.Need-mul-full-2
-mul-full-2 c = let p = c .before .before .pre in fits-mul 200 16000 (p .0) (mul-le-mul (p .1) (p .2)) tt
-
 returns : tie.Need-returns
 unfolding startSegmentNumber anyOf orFrom
 returns c = sym (row-applies _ _ _ (c .if1 .taken))
@@ -22,4 +16,9 @@ unfolding startSegmentNumber anyOf orFrom
 returns-2 c = sym (row-skipped _ _ _ (c .if1 .left))
 
 pub value-number-spec : {M : Type 1} → statement M
-value-number-spec = tie.close (tie.spec mul-full mul-full-2 returns returns-2)
+value-number-spec =
+    tie.close
+    (tie.spec
+    (λ c. let p = c .before .pre in fits-mul 2000 8 (p .1) (p .2) tt)
+    (λ c. let p = c .before .before .pre in fits-mul 200 16000 (p .0) (mul-le-mul (p .1) (p .2)) tt)
+    returns returns-2)

@@ -13,5 +13,4 @@ returns c =
 
 pub put-sign-spec : {M : Type 1} → statement M
 put-sign-spec =
-    tie.close
-    (tie.spec (λ c κs. search needs) (λ c. search needs) (λ c. search needs) (λ c. search needs) returns)
+    tie.close (tie.spec (λ c κs. search needs) (λ c. search needs) (λ c. search needs) (λ c. search needs) returns)

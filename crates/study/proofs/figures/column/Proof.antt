@@ -15,7 +15,7 @@ abbrev μ-loop : tie.MeasureT-loop
 μ-loop words at o n sum₀ i₀ sum i = n - i
 
 loop-holds : tie.Need-loop-holds Inv-loop μ-loop
-loop-holds c = (omega arith, sum-none _ _)
+loop-holds c = (omega arith, sum-none)
 
 held : (c : tie.After-shared-slice-known Inv-loop μ-loop)
     → (let l = c .before .before in figureAt (l .before .args .words .now) (l .before .args .at) (l .before .args .o) (l .loop .i) ≤ 1000000000000)
@@ -24,27 +24,16 @@ held c = c .before .before .before .pre .high _ (c .before .loop-test .taken)
 loop-again : tie.Need-loop-again Inv-loop μ-loop
 loop-again c =
     let l = c .before .before .loop in
-    (omega arith, sum-more _ _ (l .i) (l .sum) _ (l .inv .1) refl (held c))
+    (omega arith, sum-more (l .inv .1) refl (held c))
 
 returns : tie.Need-returns Inv-loop μ-loop
 returns c =
     let l = c .before .loop in
-    sum-all _ _ _ _ _ (l .inv .1) (l .inv .0) (c .loop-test .left)
+    sum-all (l .inv .1) (l .inv .0) (c .loop-test .left)
 
 pub column-spec : {M : Type 1} → statement M
 column-spec =
     tie.close
     (tie.spec
-    Inv-loop
-    μ-loop
-    loop-holds
-    (λ c. search needs)
-    (λ c. search needs)
-    (λ c. search needs)
-    (λ c. search needs)
-    (λ c. search needs)
-    (λ c. omega (arith, held c))
-    (λ c. search needs)
-    (λ c. search needs)
-    loop-again
-    returns)
+    Inv-loop μ-loop loop-holds (λ c. search needs) (λ c. search needs) (λ c. search needs) (λ c. search needs)
+    (λ c. search needs) (λ c. omega (arith, held c)) (λ c. search needs) (λ c. search needs) loop-again returns)

@@ -30,11 +30,6 @@ lane s = omega (arith, placed (s .pre .0 .laid) (s .args .k) (s .pre .0 .high) .
 small : (s : tie.Start) → s .args .i < 40
 small s = omega (arith, size-high (s .pre .0 .laid), s .pre .1)
 
-slice-aggregate-kept-segment : tie.Need-slice-aggregate-kept-segment
-slice-aggregate-kept-segment c =
-    let s = c .before .before .before in
-    sym (length-take-le 2560 (s .args .words .now) (omega (arith, room s)))
-
 row-figures-requires : tie.Need-row-figures-requires
 row-figures-requires c κs =
     let s = c .before .before .before .before .before .before in
@@ -47,22 +42,19 @@ pub segment-figures-spec : {M : Type 1} → statement M
 segment-figures-spec =
     tie.close
     (tie.spec
-    (λ c. search needs)
-    (λ c. search needs)
+    (λ c. search needs) (λ c. search needs)
     (λ c. omega (arith, word (c .before .before)))
     (λ c. omega (arith, word (c .before .before)))
     (λ c. search needs)
     (λ c. omega (arith, word (c .before .before), small (c .before .before)))
     (λ c. omega (arith, speed (c .before .before)))
     (λ c. omega (arith, speed (c .before .before), small (c .before .before)))
-    slice-aggregate-kept-segment
-    (λ c. search needs)
-    (λ c κs. search needs)
+    (λ c. let s = c .before .before .before in sym (length-take-le 2560 (s .args .words .now) (omega (arith, room s))))
+    (λ c. search needs) (λ c κs. search needs)
     (λ c. omega (arith, room (c .before .before .before .before)))
     (λ c. omega (arith, room (c .before .before .before .before)))
     (λ c. omega (arith, room (c .before .before .before .before)))
     (λ c. search needs)
     (λ c. let s = c .before .before .before .before .before in omega (arith, speed s, small s))
     (λ c. omega (arith, lane (c .before .before .before .before .before .before)))
-    row-figures-requires
-    returns)
+    row-figures-requires returns)

@@ -27,8 +27,7 @@ pub place-number-spec : {M : Type 1} → statement M
 place-number-spec =
     tie.close
     (tie.spec
-    (λ c. search needs)
-    (λ c. search needs)
+    (λ c. search needs) (λ c. search needs)
     (λ c. omega (arith, word (c .before .before)))
     (λ c. omega (arith, word (c .before .before)))
     (λ c. omega (arith, speed (c .before .before)))

@@ -1,7 +1,6 @@
 -- The network refuses, or the arrays' lengths, or the cases; each is asked where the ones before accept.
 use Prim.Native.Nat.{_≤_}
 use mathlib.Core.Path.{_≡_, sym, ap, _∙_}
-use mathlib.Core.Bool.{_||_}
 use native.Mathlib.Omega.{arith}
 use lib.Dec.{ltb}
 use lib.ListN.{length}
@@ -31,15 +30,6 @@ size c = ap (λ (h : Head). h .size) (c .kept-head .ensures)
 small : (c : tie.After-kept-head) → c .kept-head .result .size ≤ 40
 small c = omega (arith, size c, kept-within _ (kept (c .before)) .head .size-high)
 
--- the value of the test of the lengths
-short :
-    (c : tie.After-kept-head) →
-    let a = start (c .before) .args in
-    let n = c .kept-head .result .size in
-    (ltb (length (a .words .now)) (wordsFor n) || ltb (length (a .speeds .now)) (speedsFor n))
-    ≡ (ltb (length (a .words .now)) (wordsFor (sizeAt (a .words .now))) || ltb (length (a .speeds .now)) (speedsFor (sizeAt (a .words .now))))
-short c = let a = start (c .before) .args in λ j. ltb (length (a .words .now)) (wordsFor (size c j)) || ltb (length (a .speeds .now)) (speedsFor (size c j))
-
 laid : (c : tie.Else3) → let a = start (c .before .before) .args in Laid (a .words .now) (a .speeds .now) (c .before .kept-head .result .size)
 laid c =
     let a = start (c .before .before) .args in
@@ -61,27 +51,17 @@ returns-2 : tie.Need-returns-2
 returns-2 c = net-refused _ _ (omega (arith, c .before .kept-number .ensures, c .if2 .taken))
 
 returns-3 : tie.Need-returns-3
-returns-3 c = lengths-refused _ _ (kept (c .before .before)) (sym (short (c .before)) ∙ c .if3 .taken)
+returns-3 c = lengths-refused _ _ (kept (c .before .before)) (rw (size (c .before)) at (c .if3 .taken))
 
 returns-4 : tie.Need-returns-4
 returns-4 c =
     let h = c .before .before in
-    cases-judged _ _ (kept (h .before)) (sym (short h) ∙ c .before .if3 .left) (c .cases-number .ensures)
+    cases-judged _ _ (kept (h .before)) (rw (size h) at (c .before .if3 .left)) (c .cases-number .ensures)
 
 pub sound-number-spec : {M : Type 1} → statement M
 sound-number-spec =
     tie.close
     (tie.spec
-    returns
-    slice-aggregate-net
-    (λ c κs. search needs)
-    returns-2
-    (λ c κs. search needs)
-    (λ c. omega (arith, small c))
-    (λ c. omega (arith, small c))
-    (λ c. omega (arith, small c))
-    (λ c. omega (arith, small c))
-    (λ c. omega (arith, small c))
-    returns-3
-    (λ c κs. laid c)
-    returns-4)
+    returns slice-aggregate-net (λ c κs. search needs) returns-2 (λ c κs. search needs) (λ c. omega (arith, small c))
+    (λ c. omega (arith, small c)) (λ c. omega (arith, small c)) (λ c. omega (arith, small c))
+    (λ c. omega (arith, small c)) returns-3 (λ c κs. laid c) returns-4)

@@ -46,12 +46,5 @@ pub case-number-spec : {M : Type 1} → statement M
 case-number-spec =
     tie.close
     (tie.spec
-    (λ c κs. search needs)
-    returns
-    returns-2
-    returns-3
-    (λ c. search needs)
-    (λ c. search needs)
-    shared-slice-read-if4
-    returns-4
-    returns-5)
+    (λ c κs. search needs) returns returns-2 returns-3 (λ c. search needs) (λ c. search needs) shared-slice-read-if4
+    returns-4 returns-5)

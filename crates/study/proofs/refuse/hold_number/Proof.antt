@@ -25,9 +25,6 @@ returns c = unsound (hold _) _ _ refl (sym (c .before .sound .ensures) ∙ not-t
 returns-2 : tie.Need-returns-2
 returns-2 c = hold-missing _ _ _ (judged-sound (c .before)) (c .if2 .taken)
 
-shared-slice-read-if3 : tie.Need-shared-slice-read-if3
-shared-slice-read-if3 c = omega (arith, high (c .before), laid _ _ (judged-sound (c .before .before)) .room)
-
 returns-3 : tie.Need-returns-3
 returns-3 c = let d = c .before .before in hold-filled _ _ _ (judged-sound (d .before)) (d .if2 .left) (c .if3 .taken)
 
@@ -38,11 +35,6 @@ pub hold-number-spec : {M : Type 1} → statement M
 hold-number-spec =
     tie.close
     (tie.spec
-    (λ c κs. search needs)
-    returns
-    returns-2
-    (λ c. omega (arith, high c))
-    (λ c. omega (arith, high c))
-    shared-slice-read-if3
-    returns-3
-    returns-4)
+    (λ c κs. search needs) returns returns-2 (λ c. omega (arith, high c)) (λ c. omega (arith, high c))
+    (λ c. omega (arith, high (c .before), laid _ _ (judged-sound (c .before .before)) .room))
+    returns-3 returns-4)

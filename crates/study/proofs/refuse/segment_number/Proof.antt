@@ -14,9 +14,6 @@ accepted c = sym (c .before .case-number .ensures) ∙ c .if1 .left
 returns : tie.Need-returns
 returns c = segment-case _ _ _ _ (c .before .case-number .ensures) (c .if1 .taken)
 
-shared-slice-read-if2 : tie.Need-shared-slice-read-if2
-shared-slice-read-if2 c = omega (arith, report-long _ _ _ (accepted (c .before)))
-
 returns-2 : tie.Need-returns-2
 returns-2 c = segment-none _ _ _ _ (accepted (c .before .before)) (c .if2 .taken)
 
@@ -25,4 +22,8 @@ returns-3 c = segment-there _ _ _ _ (accepted (c .before .before)) (c .if2 .left
 
 pub segment-number-spec : {M : Type 1} → statement M
 segment-number-spec =
-    tie.close (tie.spec (λ c κs. search needs) returns shared-slice-read-if2 returns-2 returns-3)
+    tie.close
+    (tie.spec
+    (λ c κs. search needs) returns
+    (λ c. omega (arith, report-long _ _ _ (accepted (c .before))))
+    returns-2 returns-3)

@@ -6,12 +6,11 @@ use mir.ValLaws.{toZ-ofZ}
 use borrow.Author.Needs.{needs}
 use borrow.Author.Tests.{not-true, not-false}
 use Rattle.laws.specs.First.{outside}
-use Rattle.laws.proofs.First.{row-applies, row-skipped}
 use Rattle.study.specs.Arrangement.{sizeAt}
 use Rattle.study.specs.Sound.{sound}
 use Rattle.study.specs.Change.{signRefused}
 use Rattle.study.proofs.Performing.{unsound}
-use Rattle.study.proofs.Settings.{sign-judged}
+use Rattle.study.proofs.Settings.{sign-missing, sign-bad, sign-taken}
 use Rattle.study.proofs.refuse.sign_number.Statement.{statement}
 use Rattle.study.proofs.refuse.sign_number.Tie as tie
 
@@ -33,32 +32,16 @@ returns : tie.Need-returns
 returns c = unsound _ _ _ refl (sym (c .before .sound .ensures) ∙ not-true _ (c .if1 .taken))
 
 returns-2 : tie.Need-returns-2
-returns-2 c =
-    sym (sign-judged _ _ _ (is-sound (c .before .before)) _ _
-    ∙ row-applies _ _ _ (sym (c .before .segment-missing .ensures) ∙ c .if2 .taken))
+returns-2 c = sign-missing _ _ _ (is-sound (c .before .before)) _ _ (sym (c .before .segment-missing .ensures) ∙ c .if2 .taken)
 
 returns-3 : tie.Need-returns-3
-returns-3 c =
-    let d = c .before .before in
-    sym (sign-judged _ _ _ (is-sound (d .before .before)) _ _
-    ∙ row-skipped _ _ _ (there d)
-    ∙ row-applies _ _ _ (sym (bad (c .before)) ∙ c .if3 .taken))
+returns-3 c = let d = c .before .before in sign-bad _ _ _ (is-sound (d .before .before)) _ _ (there d) (sym (bad (c .before)) ∙ c .if3 .taken)
 
 returns-4 : tie.Need-returns-4
-returns-4 c =
-    let d = c .before .before in
-    sym (sign-judged _ _ _ (is-sound (d .before .before)) _ _
-    ∙ row-skipped _ _ _ (there d)
-    ∙ row-skipped _ _ _ (sym (bad (c .before)) ∙ c .if3 .left))
+returns-4 c = let d = c .before .before in sign-taken _ _ _ (is-sound (d .before .before)) _ _ (there d) (sym (bad (c .before)) ∙ c .if3 .left)
 
 pub sign-number-spec : {M : Type 1} → statement M
 sign-number-spec =
     tie.close
     (tie.spec
-    (λ c κs. search needs)
-    returns
-    (λ c κs. search needs)
-    returns-2
-    (λ c κs. search needs)
-    returns-3
-    returns-4)
+    (λ c κs. search needs) returns (λ c κs. search needs) returns-2 (λ c κs. search needs) returns-3 returns-4)

@@ -9,7 +9,6 @@ use borrow.Author.Needs.{needs}
 use borrow.Author.Tests.{not-true, not-false}
 use Rattle.model.specs.Words.{netOf}
 use Rattle.model.specs.Sound.{stepNumberIn}
-use Rattle.study.specs.Arrangement.{sizeAt}
 use Rattle.study.specs.Calls.{step}
 use Rattle.study.specs.Sound.{sound}
 use Rattle.study.proofs.Network.{size-word}
@@ -55,10 +54,7 @@ pub step-number-spec : {M : Type 1} → statement M
 step-number-spec =
     tie.close
     (tie.spec
-    (λ c κs. search needs)
-    returns
-    (λ c. omega (arith, room (c .before)))
-    net-part
+    (λ c κs. search needs) returns (λ c. omega (arith, room (c .before))) net-part
     (λ c. omega (arith, small (c .before .before)))
     (λ c. omega (arith, small (c .before .before)))
     (λ c. omega (arith, small (c .before .before)))

@@ -6,9 +6,6 @@ use Rattle.study.proofs.Network.{segment-kept}
 use Rattle.study.proofs.segment.segment_at.Statement.{statement}
 use Rattle.study.proofs.segment.segment_at.Tie as tie
 
-slice-aggregate-kept-segment : tie.Need-slice-aggregate-kept-segment
-slice-aggregate-kept-segment c = let s = c .before .before in sym (length-take-le 2560 (s .args .words .now) (s .pre .0))
-
 returns : tie.Need-returns
 returns c =
     let s = c .before .before .before in
@@ -17,4 +14,6 @@ returns c =
 pub segment-at-spec : {M : Type 1} → statement M
 segment-at-spec =
     tie.close
-    (tie.spec slice-aggregate-kept-segment (λ c. search needs) (λ c. search needs) (λ c κs. search needs) returns)
+    (tie.spec
+    (λ c. let s = c .before .before in sym (length-take-le 2560 (s .args .words .now) (s .pre .0)))
+    (λ c. search needs) (λ c. search needs) (λ c κs. search needs) returns)

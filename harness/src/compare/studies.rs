@@ -109,7 +109,7 @@ fn any_of_shape(random: &mut Random, shape: Shape) -> Study {
 
 /// Any sound study of the network: the cases have nothing to do with one
 /// another, and the live one may have taken all its steps.
-fn any_study(random: &mut Random, network: Network) -> Study {
+pub fn any_study(random: &mut Random, network: Network) -> Study {
     let mut cases: Vec<_> = (0..=SLOTS)
         .map(|_| match random.once_in(2) {
             true => Some(cases::wild(random, &network)),

@@ -6,6 +6,7 @@ use super::Difference;
 use crate::calls::{ask_book, begin_book, Answer, Call};
 use crate::study::Arrays;
 use oracle::book::{Book, Lengths};
+use oracle::study::{self, Study};
 
 pub struct Followed {
     lengths: Lengths,
@@ -33,6 +34,17 @@ impl Followed {
     /// What the engine has made of its arrays.
     pub fn lent(&self) -> (&[u64], &[f64]) {
         self.both.lent()
+    }
+
+    /// The arrays hold the book's study, where one has begun.
+    pub fn end(&self) -> Result<(), Difference> {
+        let (words, speeds) = self.lent();
+        match &self.book {
+            Some(book) if study::read(words, speeds) != Ok(Study::of_book(book)) => {
+                Err(self.differs("the study is not the book's"))
+            }
+            _ => Ok(()),
+        }
     }
 
     /// A difference after the last call.

@@ -6,20 +6,15 @@ use crate::calls::{Call, Function};
 use crate::compare::Difference;
 use crate::random::Random;
 use oracle::book::SLOTS;
-use oracle::study::{self, Study};
 
 impl List {
     /// The study is the book's. Where asked for, every report is made too.
     pub(super) fn end(&mut self, random: &mut Random, reports: bool) -> Result<(), Difference> {
-        let followed = &mut self.followed;
-        let Some(book) = followed.book() else {
-            return Err(followed.differs("no Start was accepted"));
-        };
-        let (words, speeds) = followed.lent();
-        if study::read(words, speeds) != Ok(Study::of_book(book)) {
-            return Err(followed.differs("the study is not the book's"));
+        if self.followed.book().is_none() {
+            return Err(self.followed.differs("no Start was accepted"));
         }
-        followed.take(Call::Sound)?;
+        self.followed.end()?;
+        self.followed.take(Call::Sound)?;
         if reports {
             self.reports()?;
             let right = !random.once_in(2);

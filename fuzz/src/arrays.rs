@@ -17,6 +17,9 @@ const ODD: [f64; 8] = [
     200_000.000_000_1,
 ];
 
+/// Most changes would hide one another if there were many.
+const CHANGES: [usize; 8] = [0, 0, 0, 1, 1, 1, 2, 6];
+
 /// Both arrays, and where their cases begin.
 pub struct Made {
     pub words: Vec<u64>,
@@ -56,9 +59,9 @@ impl Made {
         self.speeds.resize(speeds, f64::NAN);
     }
 
-    /// Up to seven changes.
+    /// Some changes, or none.
     pub fn patch(&mut self, input: &mut Input) {
-        for _ in 0..input.below(8) {
+        for _ in 0..CHANGES[input.below(CHANGES.len())] {
             match input.below(4) {
                 0 => self.patch_speed(input),
                 _ => self.patch_words(input),
@@ -99,6 +102,7 @@ impl Made {
                     .take(length)
                     .for_each(|word| *word = input.number());
             }
+            4 | 5 => *word = input.edge(),
             _ => *word = input.number(),
         }
     }

@@ -7,17 +7,17 @@ const EDGES: [u64; 16] = [
     u64::MAX,
     1 << 63,
     1 << 32,
-    (1 << 32) + 1,
-    u32::MAX as u64,
+    200,
+    500,
+    1_000,
+    2_000,
     20_000,
-    20_001,
     60_000,
     200_000,
     300_000,
     1_000_000,
-    1_000_001,
+    100_000_000,
     1_000_000_000_000,
-    1_000_000_000_001,
     1_000_000_000_000_000_000,
     -500_i64 as u64,
 ];
@@ -51,7 +51,7 @@ impl<'a> Input<'a> {
     }
 
     /// Any number, of one byte or more: most below 128, then of 1, 2, 4 or 8
-    /// bytes, or an edge.
+    /// bytes, or beside an edge.
     pub fn number(&mut self) -> u64 {
         let first = self.byte();
         match first >> 4 {
@@ -60,8 +60,14 @@ impl<'a> Input<'a> {
             10 | 11 => u64::from(u16::from_le_bytes(self.bytes())),
             12 | 13 => u64::from(u32::from_le_bytes(self.bytes())),
             14 => u64::from_le_bytes(self.bytes()),
-            _ => EDGES[usize::from(first & 15)],
+            _ => self.beside(EDGES[usize::from(first & 15)]),
         }
+    }
+
+    /// Beside an edge, or the edge itself.
+    pub fn edge(&mut self) -> u64 {
+        let edge = EDGES[self.below(EDGES.len())];
+        self.beside(edge)
     }
 
     /// A number below `limit`, which is not 0.
@@ -73,6 +79,10 @@ impl<'a> Input<'a> {
     /// harness make it.
     pub fn random(&mut self) -> Random {
         Random::new(u64::from(u16::from_le_bytes(self.bytes())), 0, 0)
+    }
+
+    fn beside(&mut self, edge: u64) -> u64 {
+        edge.wrapping_add(self.below(3) as u64).wrapping_sub(1)
     }
 
     fn bytes<const N: usize>(&mut self) -> [u8; N] {

@@ -44,8 +44,8 @@ fn whole_file(random: &mut Random) -> Vec<u8> {
 /// right calls.
 fn right_calls(random: &mut Random) -> Vec<u8> {
     let mut bytes = vec![4];
-    bytes.extend(any(random, 3));
-    bytes.extend([15, 15, 0]);
+    bytes.extend(any(random, 2));
+    bytes.extend([1, random.below(256) as u8, 15, 15, 0]);
     for _ in 0..random.between(1, 12) {
         bytes.extend([random.below(14) as u8, 0]);
         bytes.extend(any(random, 2));
@@ -53,11 +53,12 @@ fn right_calls(random: &mut Random) -> Vec<u8> {
     bytes
 }
 
-/// For every kind of arrays: one to three changes, then anything.
+/// For every kind of target but raw files: anything after two bytes for what
+/// is made.
 fn damaged(random: &mut Random) -> Vec<u8> {
     let mut bytes = vec![random.between(1, 4) as u8];
-    bytes.extend(any(random, 3));
-    bytes.extend([15, 15, random.between(1, 3) as u8]);
+    bytes.extend(any(random, 2));
+    bytes.extend([random.below(8) as u8, random.below(256) as u8, 15, 15]);
     bytes.extend(any(random, 40));
     bytes
 }

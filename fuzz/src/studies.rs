@@ -8,12 +8,13 @@ use crate::input::Input;
 use harness::cases::{arrivals, calm, wild};
 use harness::compare::case_step::{self, Lent};
 use harness::compare::followed::Followed;
-use harness::compare::studies::any_study;
+use harness::compare::studies::{self, any_study};
 use harness::compare::{write as writing, Difference};
 use harness::single::{self, Single};
 use harness::study::{case_word, speeds_for, words_for, Arrays};
 use harness::words::{Stored, NETWORK_WORDS};
 use oracle::book::SLOTS;
+use oracle::file::Network;
 
 /// Most calls of an input.
 const CALLS: usize = 16;
@@ -80,9 +81,17 @@ pub fn case_step(input: &mut Input) -> Result<(), Difference> {
 /// Calls on a study, as many as the input has bytes for.
 pub fn calls(input: &mut Input) -> Result<(), Difference> {
     let mut random = input.random();
+    if input.below(4) == 0 {
+        // As the tests of the harness make them, one range's end after another.
+        let index = u64::from(input.byte()) << 8 | u64::from(input.byte());
+        let mut made = studies::made(&mut random, index);
+        let (words, speeds) = made.arrays.lent();
+        let exact = Arrays::lend_all(words.to_vec(), speeds.to_vec());
+        return list(input, exact, &made.study.network);
+    }
     let network = valid(input, &mut random);
-    let n = network.segments.len();
     let arrays = any_study(&mut random, network.clone()).laid(&mut random);
+    let n = network.segments.len();
     let mut made = Made {
         words: arrays.words.into(),
         speeds: arrays.speeds.into(),
@@ -92,9 +101,13 @@ pub fn calls(input: &mut Input) -> Result<(), Difference> {
     made.fill(input, &mut random);
     made.cut(input, words_for(n), speeds_for(n));
     made.patch(input);
-    let mut followed = Followed::new(Arrays::lend_all(made.words, made.speeds));
+    list(input, Arrays::lend_all(made.words, made.speeds), &network)
+}
+
+fn list(input: &mut Input, arrays: Arrays, network: &Network) -> Result<(), Difference> {
+    let mut followed = Followed::new(arrays);
     for _ in 0..CALLS {
-        let call = calls::next(input, &followed, &network);
+        let call = calls::next(input, &followed, network);
         followed.take(call)?;
         if input.is_over() {
             break;

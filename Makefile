@@ -1,7 +1,8 @@
 # make run    the program tallies on its network
 # make test   the gate: every proof and must-fail edit, then the comparison with the second implementation
 # make bench  engine and second implementation side by side
-# make fuzz   a long comparison on generated input
+# make fuzz   coverage-guided fuzzing of the C interface under AddressSanitizer, an hour on two cores
+# make long-compare a long comparison on generated input
 # make memory lists of calls under valgrind
 # make scenarios published set-ups, with the published figure and ours side by side
 
@@ -12,11 +13,12 @@ SOURCES := crates.txt $(shell find crates -type f)
 CFLAGS = -std=c11 -Wall -Wextra -Werror -pedantic -O1 -g
 VALGRIND = valgrind --error-exitcode=9 -q
 FILES = 200000
-FUZZ = 10000000
+INPUTS = 10000000
+FUZZ_SECONDS = 3600
 MEMORY = 300
 SEED = 20261115
 
-.PHONY: run test bench fuzz harness oracle-tests c-tests inspect-tests memory scenarios
+.PHONY: run test bench fuzz fuzzer long-compare harness oracle-tests c-tests inspect-tests memory scenarios
 
 run:
 	rt check tallies
@@ -28,8 +30,19 @@ test:
 bench: harness
 	$(HARNESS)/bench
 
-fuzz: harness
-	$(HARNESS)/compare --fuzz $(FUZZ) --seed $(SEED)
+long-compare: harness
+	$(HARNESS)/compare --fuzz $(INPUTS) --seed $(SEED)
+
+# docs/RELIABILITY.md says what is instrumented and what a finding looks like. Not a part of the gate.
+fuzz: fuzzer
+	fuzz/run $(FUZZ_SECONDS) $(SEED)
+
+fuzzer: target/fuzz/libengine.a
+	cd fuzz && ENGINE_DIR=../target/fuzz $(CARGO) build --release
+	clang -fsanitize=fuzzer,address fuzz/target/release/libfuzz.a -lm -o target/fuzz/fuzz
+
+target/fuzz/libengine.a: fuzz/instrument $(LIBRARY)
+	fuzz/instrument
 
 # The static library is rebuilt from proved crates only: rt refuses to write it otherwise.
 $(LIBRARY): $(SOURCES)

@@ -1,10 +1,11 @@
 //! The tests. Each makes one input after another and asks both sides.
 
 mod both;
-mod case_step;
+pub mod case_step;
 mod changed;
-mod curves;
+pub mod curves;
 mod damaged;
+pub mod followed;
 mod lengths;
 mod lines;
 mod lists;
@@ -12,10 +13,10 @@ mod million;
 mod random_bytes;
 mod refused;
 mod steps;
-mod studies;
+pub mod studies;
 mod tallies;
 mod valid;
-mod write;
+pub mod write;
 
 use crate::engine;
 use crate::random::Random;
@@ -170,7 +171,7 @@ fn expect_place(file: &[u8], what: &str) -> Result<(), Difference> {
 }
 
 /// Both sides give the file the same number.
-fn expect_agreement(file: &[u8], what: &str) -> Result<(), Difference> {
+pub fn expect_agreement(file: &[u8], what: &str) -> Result<(), Difference> {
     let expected = u64::from(file::check(file));
     expect_number(file, expected, what)
 }

@@ -49,14 +49,10 @@ impl Arrays {
 
     /// Every word and every bit is the same.
     pub fn same(&self, other: &Arrays) -> bool {
-        let bits = |arrays: &Arrays| {
-            arrays
-                .speeds
-                .iter()
-                .map(|v| v.to_bits())
-                .collect::<Vec<_>>()
-        };
-        self.words == other.words && bits(self) == bits(other)
+        let bits = |arrays: &Arrays, at: usize| arrays.speeds[at].to_bits();
+        self.words == other.words
+            && self.speeds.len() == other.speeds.len()
+            && (0..self.speeds.len()).all(|at| bits(self, at) == bits(other, at))
     }
 }
 

@@ -5,8 +5,9 @@ use super::Difference;
 use crate::engine;
 use crate::single::{word_name, Single};
 
-/// Elements just past the lent ones, which no call may touch, and their bits.
+/// Elements just past the lent ones, which no call may touch.
 const GUARDS: usize = 24;
+/// Their bits.
 const GUARD: u64 = 0x5afe_9a2d_5afe_9a2d;
 
 /// The arguments of one call.
@@ -15,6 +16,9 @@ pub struct Lent<'a> {
     pub words: &'a [u64],
     pub speeds: &'a [f64],
     pub arrivals: &'a [u32],
+    /// Elements just past words and speeds, which no call may touch; 0 where
+    /// a memory checker is to see any touch.
+    pub behind: usize,
 }
 
 /// What a call answers, and the arrays after it.
@@ -65,6 +69,7 @@ impl<'a> Lent<'a> {
             words: &single.stored.words,
             speeds: &single.speeds,
             arrivals,
+            behind: GUARDS,
         }
     }
 
@@ -112,8 +117,9 @@ fn oracle_side(lent: Lent) -> Left {
 fn engine_side(lent: Lent) -> (Left, bool) {
     let (words, speeds) = (lent.words.len(), lent.speeds.len());
     let mut left = lent.unchanged(0);
-    left.words.resize(words + GUARDS, GUARD);
-    left.speeds.resize(speeds + GUARDS, f64::from_bits(GUARD));
+    left.words.resize(words + lent.behind, GUARD);
+    left.speeds
+        .resize(speeds + lent.behind, f64::from_bits(GUARD));
     let lent_words = &mut left.words[..words];
     let lent_speeds = &mut left.speeds[..speeds];
     left.number = engine::step(lent_words, lent_speeds, lent.arrivals);

@@ -35,6 +35,13 @@ pub fn one(random: &mut Random, index: u64) -> Result<(), Difference> {
     Ok(())
 }
 
+/// Both curve calls do what the oracle says of the file.
+pub fn expect_agreement(file: &[u8], curve: u64, random: &mut Random) -> Result<(), Difference> {
+    let expected = u64::from(file::curve_number(file, curve));
+    numbers(file, curve, expected)?;
+    places(file, curve, expected, random)
+}
+
 /// Both sides give file and curve number the expected number.
 fn numbers(file: &[u8], curve: u64, expected: u64) -> Result<(), Difference> {
     let engine = engine::curve_number(file, curve);

@@ -4,13 +4,13 @@
 mod end;
 mod lent;
 
-use super::both::Both;
+use super::followed::Followed;
 use super::Difference;
-use crate::calls::{ask_book, begin_book, good_start, Answer, Call, Scene};
+use crate::calls::{good_start, Call, Scene};
 use crate::networks::{calm_road, road};
 use crate::random::Random;
 use crate::study::{speeds_for, words_for};
-use oracle::book::{Book, Lengths, SLOTS};
+use oracle::book::{Book, SLOTS};
 use oracle::file::Network;
 
 /// Calls of a list.
@@ -25,17 +25,14 @@ struct List {
     /// The second fits the arrays in any case; the first may be one word or
     /// one speed too large for them, and the third far too large.
     networks: Vec<Network>,
-    lengths: Lengths,
-    both: Both,
-    /// Begins with the first accepted Start.
-    book: Option<Book>,
+    followed: Followed,
 }
 
 pub fn one(random: &mut Random, index: u64) -> Result<(), Difference> {
     let mut list = List::new(random, index);
     for turn in 0..CALLS {
         let call = list.next(random, turn);
-        list.take(call)?;
+        list.followed.take(call)?;
     }
     list.end(random, index.is_multiple_of(4))
 }
@@ -56,18 +53,13 @@ impl List {
         let arrays = lent::arrays(random, largest as usize, index / 6);
         List {
             networks: networks.into(),
-            lengths: Lengths {
-                words: arrays.lent_words,
-                speeds: arrays.lent_speeds,
-            },
-            both: Both::new(arrays),
-            book: None,
+            followed: Followed::new(arrays),
         }
     }
 
     /// Before the study has begun the arrays hold garbage.
     fn next(&self, random: &mut Random, turn: u64) -> Call {
-        let started = self.book.is_some();
+        let started = self.followed.book().is_some();
         if !started && (turn >= LATEST_START || random.once_in(2)) {
             let first = self.first(random);
             return Call::Start(good_start(random, &self.networks[first]));
@@ -80,46 +72,18 @@ impl List {
     /// of the time.
     fn first(&self, random: &mut Random) -> usize {
         let n = self.networks[0].segments.len();
-        let fits = self.lengths.words >= words_for(n) && self.lengths.speeds >= speeds_for(n);
+        let (words, speeds) = self.followed.lent();
+        let fits = words.len() >= words_for(n) && speeds.len() >= speeds_for(n);
         usize::from(!fits || random.once_in(4))
     }
 
     fn scene(&self) -> Scene<'_> {
-        let book = self.book.as_ref();
+        let book = self.followed.book();
         let filled = |slot| book.is_some_and(|book| book.slot(slot + 1).is_some());
         Scene {
             network: book.map_or(&self.networks[0], Book::network),
             filled: std::array::from_fn::<_, SLOTS, _>(filled),
             starts: &self.networks,
         }
-    }
-
-    /// Engine and oracle answer the same, and so does the book.
-    fn take(&mut self, call: Call) -> Result<(), Difference> {
-        let expected = self.of_book(&call);
-        let answer = self.both.take(call)?;
-        match expected {
-            Some(expected) if expected != answer => {
-                let what = answer.beside(&expected);
-                Err(self.both.differs(&format!("by the book {what}")))
-            }
-            _ => Ok(()),
-        }
-    }
-
-    /// The book's answer, or nothing where it has not begun.
-    fn of_book(&mut self, call: &Call) -> Option<Answer> {
-        if let Some(book) = &mut self.book {
-            return Some(ask_book(book, call));
-        }
-        let Call::Start(start) = call else {
-            return None;
-        };
-        let mut answer = Answer::lent(call);
-        match begin_book(self.lengths, start) {
-            Ok(book) => self.book = Some(book),
-            Err(number) => answer.number = u64::from(number),
-        }
-        Some(answer)
     }
 }

@@ -34,17 +34,26 @@ const FUNCTIONS: [Function; 12] = [
 ];
 
 /// Arrays that a test is about to lend.
-struct Made {
+pub struct Made {
     what: String,
-    study: Study,
-    arrays: Arrays,
+    pub study: Study,
+    pub arrays: Arrays,
     /// What Sound must answer, where that is known without the oracle.
     number: Option<u64>,
 }
 
 pub fn one(random: &mut Random, index: u64) -> Result<(), Difference> {
+    let made = made(random, index);
+    made.ask(random).map_err(|difference| Difference {
+        what: format!("{}: {}", made.what, difference.what),
+        ..difference
+    })
+}
+
+/// The arrays of that index: every kind in turn.
+pub fn made(random: &mut Random, index: u64) -> Made {
     let turn = index / 8;
-    let made = match index % 8 {
+    match index % 8 {
         0 => sound(random),
         1 | 2 => damaged::case(random, 2 * turn + index % 8 - 1),
         3 => damaged::network(random, turn),
@@ -52,11 +61,7 @@ pub fn one(random: &mut Random, index: u64) -> Result<(), Difference> {
         5 => damaged::marks(random, turn),
         6 => changed::flipped(random, turn),
         _ => changed::garbage(random, turn),
-    };
-    made.ask(random).map_err(|difference| Difference {
-        what: format!("{}: {}", made.what, difference.what),
-        ..difference
-    })
+    }
 }
 
 impl Made {
@@ -109,7 +114,7 @@ fn any_of_shape(random: &mut Random, shape: Shape) -> Study {
 
 /// Any sound study of the network: the cases have nothing to do with one
 /// another, and the live one may have taken all its steps.
-fn any_study(random: &mut Random, network: Network) -> Study {
+pub fn any_study(random: &mut Random, network: Network) -> Study {
     let mut cases: Vec<_> = (0..=SLOTS)
         .map(|_| match random.once_in(2) {
             true => Some(cases::wild(random, &network)),

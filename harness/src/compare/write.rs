@@ -12,6 +12,8 @@ use oracle::file;
 const ARRAYS: u64 = 11;
 /// A buffer too short for the file.
 const BUFFER: u64 = 24;
+/// Bytes that hold any file.
+const ENOUGH: usize = 8000;
 
 pub fn one(random: &mut Random, index: u64) -> Result<(), Difference> {
     let turn = index / 8;
@@ -88,7 +90,7 @@ fn two_records(random: &mut Random, turn: u64) -> Result<(), Difference> {
         expected = 6;
     }
     let what = format!("record {short} too short, {} at {spoiled}", field.name);
-    expect(&stored.words, 8000, &Err(expected), &what, random)
+    expect(&stored.words, ENOUGH, &Err(expected), &what, random)
 }
 
 /// Fewer words than a network takes, whatever they hold.
@@ -120,7 +122,7 @@ fn random_words(random: &mut Random, turn: u64) -> Result<(), Difference> {
     for word in &mut stored.words[kept..] {
         *word = garbage(random);
     }
-    expect_agreement(&stored.words, "random words", random)
+    expect_agreement(&stored.words, ENOUGH, "random words", random)
 }
 
 /// Another n or c, so that words ignored before are read.
@@ -130,13 +132,18 @@ fn other_counts(random: &mut Random) -> Result<(), Difference> {
         true => stored.words[1] = random.edge(1, 40),
         false => stored.words[2] = random.edge(1, 8),
     }
-    expect_agreement(&stored.words, "another n or c", random)
+    expect_agreement(&stored.words, ENOUGH, "another n or c", random)
 }
 
-/// The engine does what the oracle says of the words.
-fn expect_agreement(words: &[u64], what: &str, random: &mut Random) -> Result<(), Difference> {
-    let file = oracle::stored::parse(words).map(|network| file::write(&network));
-    expect(words, 8000, &file.map_err(u64::from), what, random)
+/// The engine does what the oracle says of the words, for a buffer of so many
+/// bytes.
+pub fn expect_agreement(
+    words: &[u64],
+    room: usize,
+    what: &str,
+    random: &mut Random,
+) -> Result<(), Difference> {
+    expect(words, room, &oracle_write(words, room), what, random)
 }
 
 /// Engine and oracle write this file, or refuse with this number.

@@ -6,36 +6,32 @@ use crate::calls::{Call, Function};
 use crate::compare::Difference;
 use crate::random::Random;
 use oracle::book::SLOTS;
-use oracle::study::{self, Study};
 
 impl List {
     /// The study is the book's. Where asked for, every report is made too.
     pub(super) fn end(&mut self, random: &mut Random, reports: bool) -> Result<(), Difference> {
-        let Some(book) = &self.book else {
-            return Err(self.both.differs("no Start was accepted"));
-        };
-        let (words, speeds) = self.both.lent();
-        if study::read(words, speeds) != Ok(Study::of_book(book)) {
-            return Err(self.both.differs("the study is not the book's"));
+        if self.followed.book().is_none() {
+            return Err(self.followed.differs("no Start was accepted"));
         }
-        self.take(Call::Sound)?;
+        self.followed.end()?;
+        self.followed.take(Call::Sound)?;
         if reports {
             self.reports()?;
             let right = !random.once_in(2);
             let write = self.scene().call(random, Function::Write, right);
-            self.take(write)?;
+            self.followed.take(write)?;
         }
         Ok(())
     }
 
     fn reports(&mut self) -> Result<(), Difference> {
         let segments = self.scene().network.segments.len() as u64;
-        self.take(Call::RunCount { room: 1 })?;
+        self.followed.take(Call::RunCount { room: 1 })?;
         for case in 0..=SLOTS as u64 {
-            self.take(Call::Report { case, room: 6 })?;
+            self.followed.take(Call::Report { case, room: 6 })?;
             for segment in 1..=segments {
                 let room = 7;
-                self.take(Call::ReportSegment {
+                self.followed.take(Call::ReportSegment {
                     case,
                     segment,
                     room,

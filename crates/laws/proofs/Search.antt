@@ -5,7 +5,7 @@ use mathlib.Core.Path.{_≡_, refl, sym, ap, _∙_}
 use mathlib.Core.Logic.{⊎-elim}
 use mathlib.Core.List.{List}
 use native.Mathlib.Omega.{arith}
-use native.Mathlib.Nat.{eq-or-lt-of-le, add-zero, add-suc}
+use native.Mathlib.Nat.{le-refl, eq-or-lt-of-le}
 use native.Mathlib.Numerals.{add-one}
 use lib.Dec.{ltb}
 use lib.ListN.{length, getD, List·getD-eq-default}
@@ -57,13 +57,13 @@ module _ (test : ℕ → Bool) where
   unfolding firstWhere
   where-found n = from-found 0 n
 
-  -- where the test does not fail at all numbers below n, it holds at the one that is found
-  pub where-some : (n : ℕ) → (((j : ℕ) → j < n → test j ≡ false) → ⊥) → (firstWhere test n < n) × (test (firstWhere test n) ≡ true)
-  where-some n some = go (ltb (firstWhere test n) n) refl (where-found n)
+  -- where the test does not fail at all numbers below m, a search of more finds one of them, and it holds there
+  pub where-below : (m n : ℕ) → m ≤ n → (((j : ℕ) → j < m → test j ≡ false) → ⊥) → (firstWhere test n < m) × (test (firstWhere test n) ≡ true)
+  where-below m n more some = go (ltb (firstWhere test n) m) refl (where-found n)
     where
-      go : (t : Bool) → ltb (firstWhere test n) n ≡ t → Found 0 n (firstWhere test n) → (firstWhere test n < n) × (test (firstWhere test n) ≡ true)
-      go true e f = let l : firstWhere test n < n = ltb-true _ _ e in (l, f .holds (omega (arith, l)))
-      go false e f = let h : n ≤ firstWhere test n = ltb-false _ _ e in absurd (some (λ j l. f .none j (omega arith) (omega (arith, l, h))))
+      go : (t : Bool) → ltb (firstWhere test n) m ≡ t → Found 0 n (firstWhere test n) → (firstWhere test n < m) × (test (firstWhere test n) ≡ true)
+      go true e f = let l : firstWhere test n < m = ltb-true _ _ e in (l, f .holds (omega (arith, l, more)))
+      go false e f = let h : m ≤ firstWhere test n = ltb-false _ _ e in absurd (some (λ j l. f .none j (omega arith) (omega (arith, l, h))))
 
   -- the loop's invariant: a search of the numbers that are left finds the same
   pub record Searching (n i : ℕ) : Type 0 where
@@ -100,7 +100,7 @@ module _ (test : ℕ → Bool) where
 
 -- ---- a list of tests, not all of which fail: the first that is found holds
 pub held : (ts : List Bool) → (anyOf ts ≡ false → ⊥) → getD ts (firstHeld ts) false ≡ true
-held ts some = where-some (λ i. getD ts i false) (length ts) (λ all. some (anyOf-none ts (λ i. go i all (ltb i (length ts)) refl))) .1
+held ts some = where-below (λ i. getD ts i false) (length ts) (length ts) (le-refl _) (λ all. some (anyOf-none ts (λ i. go i all (ltb i (length ts)) refl))) .1
   where
     go : (i : ℕ) → ((j : ℕ) → j < length ts → getD ts j false ≡ false) → (t : Bool) → ltb i (length ts) ≡ t → getD ts i false ≡ false
     go i all true e = all i (ltb-true _ _ e)

@@ -2,7 +2,7 @@
 use Prim.Native.Nat.{ℕ, zero, suc, _*_, _^_, _≤_}
 use mathlib.Core.Path.{_≡_, refl}
 use mathlib.Core.Bool.{Bool, true, false, _||_, _&&_, true≢false, false≢true}
-use mathlib.Core.List.{List, [], _∷_}
+use mathlib.Core.List.{List, [], _∷_, _++_}
 use native.Mathlib.Nat.{lt-of-le-of-lt, mul-le-mul}
 use lib.Dec.{T, ltb, lit<}
 use lib.ListN.{getD}
@@ -60,6 +60,12 @@ orFrom-none (true ∷ us) at = absurd (true≢false (at 0))
 pub anyOf-none : (ts : List Bool) → ((i : ℕ) → getD ts i false ≡ false) → anyOf ts ≡ false
 unfolding anyOf
 anyOf-none ts at = orFrom-none ts at
+
+-- where none of two lists of tests holds, none of the first does
+pub front-false : (ts us : List Bool) → ((i : ℕ) → getD (ts ++ us) i false ≡ false) → (i : ℕ) → getD ts i false ≡ false
+front-false [] us each i = refl
+front-false (t ∷ ts) us each zero = each 0
+front-false (t ∷ ts) us each (suc i) = front-false ts us (λ j. each (suc j)) i
 
 -- ---- a range
 

@@ -24,8 +24,11 @@ markRules b = notMark b 0 ∷ notMark b 1 ∷ notMark b 2 ∷ []
 abbrev pub notZero : List ℕ → ℕ → Bool
 notZero b at = ltb 0 (byteAt b at)
 
+abbrev pub headZeros : List ℕ → List Bool
+headZeros b = notZero b 11 ∷ notZero b 14 ∷ notZero b 15 ∷ []
+
 abbrev pub headRules : List ℕ → List Bool
-headRules b = headTests (headOf b) ++ (notZero b 11 ∷ notZero b 14 ∷ notZero b 15 ∷ [])
+headRules b = headTests (headOf b) ++ headZeros b
 
 -- where the field of each rule stands
 abbrev pub headFields : List ℕ
@@ -47,10 +50,13 @@ unfoldable pub badRecord : List ℕ → ℕ
 badRecord b = firstWhere (λ i. ltb 0 (recordCallNumber b i)) 40
 
 -- 7: the rules of record i: its fields as row 7 has them, then its bytes that are zero
-abbrev pub recordRules : List ℕ → ℕ → List Bool
-recordRules b i =
+abbrev pub recordZeros : List ℕ → ℕ → List Bool
+recordZeros b i =
     let at = recordStart (headOf b) i in
-    segmentTests (headOf b) i (segmentOn b i) ++ (notZero b (at + 7) ∷ notZero b (at + 14) ∷ notZero b (at + 15) ∷ [])
+    notZero b (at + 7) ∷ notZero b (at + 14) ∷ notZero b (at + 15) ∷ []
+
+abbrev pub recordRules : List ℕ → ℕ → List Bool
+recordRules b i = segmentTests (headOf b) i (segmentOn b i) ++ recordZeros b i
 
 abbrev pub recordFields : List ℕ
 recordFields = 0 ∷ 2 ∷ 3 ∷ 4 ∷ 4 ∷ 5 ∷ 6 ∷ 6 ∷ 8 ∷ 8 ∷ 10 ∷ 10 ∷ 7 ∷ 14 ∷ 15 ∷ []

@@ -58,12 +58,20 @@ scenarios: harness
 oracle-tests:
 	cd oracle && $(CARGO) test -q
 
-c-tests: target/c/tallies
+c-tests: target/c/tallies target/c/first
 	target/c/tallies
+	target/c/first < tests/inspect/network | diff target/c/first.expected -
 
 target/c/tallies: tests/c/tallies.c include/engine.h $(LIBRARY)
 	mkdir -p target/c
 	gcc $(CFLAGS) -Iinclude $< $(LIBRARY) -o $@
+
+# README's first study, as it stands there, and what README says that it prints.
+target/c/first: README.md include/engine.h $(LIBRARY)
+	mkdir -p target/c
+	sed -n '/^```c$$/,/^```$$/p' README.md | sed '1d;$$d' > $@.c
+	sed -n '/^live:/p;/^held:/p' README.md > $@.expected
+	gcc $(CFLAGS) -Iinclude $@.c $(LIBRARY) -o $@
 
 # The program must be there: rt check inspect, or the gate's first part, makes it.
 inspect-tests:

@@ -4,7 +4,8 @@ ghost use Prim.Native.Nat.{min};
 ghost use Rattle.laws.specs.First.{outside};
 ghost use Rattle.arrays.specs.Over.{over};
 
-fn shorter(a: usize, b: usize) -> usize
+// The smaller of two.
+pub fn least(a: usize, b: usize) -> usize
     ensures { λ r. ⌜ r ≡ min a b ⌝ }
 {
     if a < b {
@@ -17,7 +18,7 @@ fn shorter(a: usize, b: usize) -> usize
 pub fn put_words(src: &[u64], out: &mut [u64])
     ensures { λ _. ⌜ now (out .exit) ≡ over (now (src .entry)) (now (out .entry)) ⌝ }
 {
-    let n = shorter(out.len(), src.len());
+    let n = least(out.len(), src.len());
     let mut i = 0;
     while i < n {
         out[i] = src[i];
@@ -28,7 +29,7 @@ pub fn put_words(src: &[u64], out: &mut [u64])
 pub fn put_speeds(src: &[f64], out: &mut [f64])
     ensures { λ _. ⌜ now (out .exit) ≡ over (now (src .entry)) (now (out .entry)) ⌝ }
 {
-    let n = shorter(out.len(), src.len());
+    let n = least(out.len(), src.len());
     let mut i = 0;
     while i < n {
         out[i] = src[i];

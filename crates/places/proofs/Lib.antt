@@ -1,4 +1,4 @@
-pub mod Reading
+pub mod RuleLists
 pub mod Numbers
 pub mod Broken
 pub mod Placed

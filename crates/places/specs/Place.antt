@@ -1,5 +1,5 @@
 -- Where a refused file is wrong, as a function of its bytes: in which part, by which rule of the row that refuses it, at which byte.
-use Prim.Native.Nat.{ℕ, zero, suc, _+_, _*_, _/_, _%_}
+use Prim.Native.Nat.{ℕ, zero, suc, _+_, _*_, _/_, _%_, min}
 use mathlib.Core.Bool.{Bool, not}
 use mathlib.Core.List.{List, [], _∷_, _++_}
 use lib.ListN.{length, getD}
@@ -74,10 +74,6 @@ ruleOf b number part =
     (row (eqb number 6) (badEntry b % 201)
     (row (eqb number 7) (firstHeld (recordRules b part)) 0))
 
--- the smaller of two
-abbrev pub least : ℕ → ℕ → ℕ
-least x y = row (ltb x y) x y
-
 -- 1: where the file ends; 2: the first byte that is not the mark's; 3: the version; 4: the field; 5: the first byte that is missing or
 -- too many
 unfoldable pub headOffset : List ℕ → ℕ → ℕ → ℕ
@@ -86,7 +82,7 @@ headOffset b number rule =
     (row (eqb number 2) (firstHeld (markRules b))
     (row (eqb number 3) 3
     (row (eqb number 4) (getD headFields rule 0)
-    (row (eqb number 5) (least (length b) (fileSize (headOf b))) 0))))
+    (row (eqb number 5) (min (length b) (fileSize (headOf b))) 0))))
 
 -- 6: the entry; 7: the record's field; 8: the record's length L, its first field
 unfoldable pub offsetOf : List ℕ → ℕ → ℕ → ℕ → ℕ

@@ -4,7 +4,7 @@ use crate::search;
 ghost use mathlib.Core.Path.{_≡_};
 ghost use Prim.Native.Nat.{_≤_};
 ghost use Rattle.network.specs.File.{headOf, fileSize};
-ghost use Rattle.places.specs.Place.{partOf, ruleOf, least, headOffset, offsetOf};
+ghost use Rattle.places.specs.Place.{partOf, ruleOf, headOffset, offsetOf};
 
 // The curve (6) or the record (7, 8).
 pub(crate) fn part(file: &[u8], number: u64) -> u32
@@ -43,15 +43,6 @@ fn size_said(file: &[u8]) -> u64
     16 + 804 * network::byte_of(file, 7) + 16 * network::byte_of(file, 6)
 }
 
-fn least(x: u64, y: u64) -> u64
-    ensures { λ r. ⌜ r ≡ least x y ⌝ }
-{
-    if x < y {
-        return x;
-    }
-    y
-}
-
 // Rows 1 to 5.
 fn head_offset(file: &[u8], number: u64, rule: u64) -> u64
     ensures { λ r. ⌜ r ≡ headOffset (now (file .entry)) number rule ⌝ }
@@ -69,7 +60,7 @@ fn head_offset(file: &[u8], number: u64, rule: u64) -> u64
         return rules::head_field(rule) as u64;
     }
     if number == 5 {
-        return least(file.len() as u64, size_said(file));
+        return arrays::least(file.len(), size_said(file) as usize) as u64;
     }
     0
 }

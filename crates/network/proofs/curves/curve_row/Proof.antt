@@ -56,19 +56,6 @@ pub curve-row-spec : {M : Type 1} → statement M
 curve-row-spec =
     tie.close
     (tie.spec
-    Inv-loop
-    μ-loop
-    (λ c κs. search needs)
-    (λ c κs. search needs)
-    returns
-    loop-holds
-    (λ c. search needs)
-    (λ c. search needs)
-    (λ c κs. search needs)
-    (λ c. search needs)
-    eight-row-requires
-    returns-2
-    (λ c. search needs)
-    (λ c. search needs)
-    loop-again
-    returns-3)
+    Inv-loop μ-loop (λ c κs. search needs) (λ c κs. search needs) returns loop-holds (λ c. search needs)
+    (λ c. search needs) (λ c κs. search needs) (λ c. search needs) eight-row-requires returns-2 (λ c. search needs)
+    (λ c. search needs) loop-again returns-3)

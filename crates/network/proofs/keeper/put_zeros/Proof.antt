@@ -40,13 +40,5 @@ pub put-zeros-spec : {M : Type 1} → statement M
 put-zeros-spec =
     tie.close
     (tie.spec
-    Inv-loop
-    μ-loop
-    loop-holds
-    (λ c. search needs)
-    slice-write-words
-    (λ c. search needs)
-    (λ c. search needs)
-    loop-again
-    same-length
-    returns)
+    Inv-loop μ-loop loop-holds (λ c. search needs) slice-write-words (λ c. search needs) (λ c. search needs)
+    loop-again same-length returns)

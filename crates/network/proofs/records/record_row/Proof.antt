@@ -56,15 +56,6 @@ returns : tie.Need-returns
 unfolding recordNumber
 returns c = field-refused _ _ _ _ (fields (c .before) ∙ c .if1 .taken)
 
-mul-entry : tie.Need-mul-entry
-mul-entry c = omega (arith, within c)
-
-add-entry : tie.Need-add-entry
-add-entry c = omega (arith, within c)
-
-entry-requires : tie.Need-entry-requires
-entry-requires c κs = omega (arith, within c)
-
 too-fast-requires : tie.Need-too-fast-requires
 too-fast-requires c κs =
     (c .before .before .before .before .before .before .before .pre .0 .within .step-high, c .entry .ensures .1, within (c .before) .metres-high)
@@ -85,21 +76,7 @@ pub record-row-spec : {M : Type 1} → statement M
 record-row-spec =
     tie.close
     (tie.spec
-    (λ c. search needs)
-    (λ c. search needs)
-    (λ c. search needs)
-    (λ c. search needs)
-    (λ c. search needs)
-    (λ c. search needs)
-    (λ c. search needs)
-    (λ c. search needs)
-    (λ c κs. search needs)
-    (λ c κs. search needs)
-    (λ c κs. search needs)
-    returns
-    mul-entry
-    add-entry
-    entry-requires
-    too-fast-requires
-    returns-2
-    returns-3)
+    (λ c. search needs) (λ c. search needs) (λ c. search needs) (λ c. search needs) (λ c. search needs) (λ c. search needs)
+    (λ c. search needs) (λ c. search needs) (λ c κs. search needs) (λ c κs. search needs) (λ c κs. search needs) returns
+    (λ c. omega (arith, within c)) (λ c. omega (arith, within c)) (λ c κs. omega (arith, within c)) too-fast-requires
+    returns-2 returns-3)

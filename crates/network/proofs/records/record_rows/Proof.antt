@@ -1,51 +1,25 @@
 -- None of those passed is refused. The measure is how many are left.
-use Prim.Native.Nat.{_≤_, _-_}
-use mathlib.Core.Path.{_≡_}
+use Prim.Native.Nat.{_-_}
 use native.Mathlib.Omega.{arith}
 use borrow.Author.Needs.{needs}
-use Rattle.laws.specs.First.{firstOf}
-use Rattle.laws.proofs.First.{firstOf-none, firstOf-found, firstOf-passed, firstOf-end}
+use Rattle.laws.proofs.First.{Passed, passed-none, passed-found, passed-more, passed-end}
 use Rattle.network.specs.File.{recordNumber}
 use Rattle.network.proofs.records.record_rows.Statement.{statement}
 use Rattle.network.proofs.records.record_rows.Tie as tie
 
 abbrev Inv-loop : tie.InvT-loop
-Inv-loop file h n i₀ i = (i ≤ n) × (firstOf (recordNumber file h) i ≡ 0)
+Inv-loop file h n i₀ i = Passed (recordNumber file h) n i
 
 abbrev μ-loop : tie.MeasureT-loop
 μ-loop file h n i₀ i = n - i
-
-loop-holds : tie.Need-loop-holds Inv-loop μ-loop
-loop-holds c = (search needs, firstOf-none _)
-
-record-row-requires : tie.Need-record-row-requires Inv-loop μ-loop
-record-row-requires c κs =
-    let s = c .before .before .before in
-    (s .pre .0, omega arith)
-
-returns : tie.Need-returns Inv-loop μ-loop
-returns c =
-    let l = c .before .before .before .loop in
-    firstOf-found _ _ (l .i) (c .before .before .loop-test .taken) (l .inv .1) (c .before .record-row .ensures) (c .if1 .taken)
-
-loop-again : tie.Need-loop-again Inv-loop μ-loop
-loop-again c =
-    let l = c .before .before .before .loop in
-    (search needs, firstOf-passed _ _ (l .inv .1) (c .before .record-row .ensures) (c .if1 .left))
-
-returns-2 : tie.Need-returns-2 Inv-loop μ-loop
-returns-2 c = firstOf-end _ _ _ (c .before .loop .inv .0) (c .loop-test .left) (c .before .loop .inv .1)
 
 pub record-rows-spec : {M : Type 1} → statement M
 record-rows-spec =
     tie.close
     (tie.spec
-    Inv-loop
-    μ-loop
-    loop-holds
-    record-row-requires
-    returns
-    (λ c. search needs)
-    (λ c. search needs)
-    loop-again
-    returns-2)
+    Inv-loop μ-loop (λ c. passed-none)
+    (λ c κs. let s = c .before .before .before in (s .pre .0, omega arith))
+    (λ c. let t = c .before .before in passed-found (t .before .loop .inv) (t .loop-test .taken) (c .before .record-row .ensures) (c .if1 .taken))
+    (λ c. search needs) (λ c. search needs)
+    (λ c. let t = c .before .before in passed-more (t .before .loop .inv) (t .loop-test .taken) (c .before .record-row .ensures) (c .if1 .left))
+    (λ c. passed-end (c .before .loop .inv) (c .loop-test .left)))

@@ -43,14 +43,5 @@ pub head-offset-spec : {M : Type 1} → statement M
 head-offset-spec =
     tie.close
     (tie.spec
-    returns
-    (λ c κs. search needs)
-    returns-2
-    returns-3
-    (λ c κs. search needs)
-    (λ c. search needs)
-    returns-4
-    (λ c κs. search needs)
-    (λ c κs. search needs)
-    returns-5
-    returns-6)
+    returns (λ c κs. search needs) returns-2 returns-3 (λ c κs. search needs) (λ c. search needs) returns-4
+    (λ c κs. search needs) (λ c κs. search needs) returns-5 returns-6)

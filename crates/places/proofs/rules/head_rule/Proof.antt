@@ -1,7 +1,7 @@
 use denote.Ref.{now}
 use mathlib.Core.Path.{ap, _∙_}
 use Rattle.laws.specs.Search.{firstHeld}
-use Rattle.places.proofs.Reading.{head-read}
+use Rattle.places.proofs.RuleLists.{head-read}
 use borrow.Author.Needs.{needs}
 use Rattle.places.proofs.rules.head_rule.Statement.{statement}
 use Rattle.places.proofs.rules.head_rule.Tie as tie
@@ -18,11 +18,5 @@ pub head-rule-spec : {M : Type 1} → statement M
 head-rule-spec =
     tie.close
     (tie.spec
-    (λ c κs. search needs)
-    (λ c κs. search needs)
-    (λ c κs. search needs)
-    (λ c κs. search needs)
-    (λ c κs. search needs)
-    (λ c. search needs)
-    (λ c κs. search needs)
-    returns)
+    (λ c κs. search needs) (λ c κs. search needs) (λ c κs. search needs) (λ c κs. search needs) (λ c κs. search needs)
+    (λ c. search needs) (λ c κs. search needs) returns)

@@ -1,7 +1,7 @@
 use denote.Ref.{now}
 use mathlib.Core.Path.{ap, _∙_}
 use Rattle.laws.specs.Search.{firstHeld}
-use Rattle.places.proofs.Reading.{record-read}
+use Rattle.places.proofs.RuleLists.{record-read}
 use borrow.Author.Needs.{needs}
 use Rattle.places.proofs.rules.record_rule.Statement.{statement}
 use Rattle.places.proofs.rules.record_rule.Tie as tie
@@ -19,17 +19,6 @@ pub record-rule-spec : {M : Type 1} → statement M
 record-rule-spec =
     tie.close
     (tie.spec
-    (λ c κs. search needs)
-    (λ c. search needs)
-    (λ c. search needs)
-    (λ c κs. search needs)
-    (λ c. search needs)
-    (λ c κs. search needs)
-    (λ c. search needs)
-    (λ c κs. search needs)
-    (λ c κs. search needs)
-    (λ c κs. search needs)
-    (λ c κs. search needs)
-    (λ c. search needs)
-    (λ c κs. search needs)
-    returns)
+    (λ c κs. search needs) (λ c. search needs) (λ c. search needs) (λ c κs. search needs) (λ c. search needs)
+    (λ c κs. search needs) (λ c. search needs) (λ c κs. search needs) (λ c κs. search needs) (λ c κs. search needs)
+    (λ c κs. search needs) (λ c. search needs) (λ c κs. search needs) returns)

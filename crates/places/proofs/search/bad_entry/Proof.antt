@@ -35,12 +35,5 @@ pub bad-entry-spec : {M : Type 1} → statement M
 bad-entry-spec =
     tie.close
     (tie.spec
-    Inv-loop
-    μ-loop
-    (λ c. search-begun _ _)
-    (λ c κs. search needs)
-    returns
-    (λ c. search needs)
-    (λ c. search needs)
-    loop-again
-    returns-2)
+    Inv-loop μ-loop (λ c. search-begun _ _) (λ c κs. search needs) returns (λ c. search needs) (λ c. search needs)
+    loop-again returns-2)

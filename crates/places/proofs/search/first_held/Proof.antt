@@ -31,12 +31,5 @@ pub first-held-spec : {M : Type 1} → statement M
 first-held-spec =
     tie.close
     (tie.spec
-    Inv-loop
-    μ-loop
-    (λ c. search-begun _ _)
-    (λ c. search needs)
-    returns
-    (λ c. search needs)
-    (λ c. search needs)
-    loop-again
-    returns-2)
+    Inv-loop μ-loop (λ c. search-begun _ _) (λ c. search needs) returns (λ c. search needs) (λ c. search needs)
+    loop-again returns-2)

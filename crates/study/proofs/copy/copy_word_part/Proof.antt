@@ -27,22 +27,7 @@ pub copy-word-part-spec : {M : Type 1} → statement M
 copy-word-part-spec =
     tie.close
     (tie.spec
-    (λ c. search needs)
-    (λ c. search needs)
-    (λ c. search needs)
-    (λ c. search needs)
-    (λ c. search needs)
-    (λ c. search needs)
-    slice-aggregate-put-words
-    (λ c κs. search needs)
-    (λ c. search needs)
-    slice-aggregate-put-words-2
-    (λ c. search needs)
-    (λ c. search needs)
-    (λ c. search needs)
-    (λ c. search needs)
-    (λ c. search needs)
-    (λ c κs. search needs)
-    (λ c. search needs)
-    (λ c. search needs)
-    returns)
+    (λ c. search needs) (λ c. search needs) (λ c. search needs) (λ c. search needs) (λ c. search needs)
+    (λ c. search needs) slice-aggregate-put-words (λ c κs. search needs) (λ c. search needs)
+    slice-aggregate-put-words-2 (λ c. search needs) (λ c. search needs) (λ c. search needs) (λ c. search needs)
+    (λ c. search needs) (λ c κs. search needs) (λ c. search needs) (λ c. search needs) returns)

@@ -28,13 +28,9 @@ pub copy-words-spec : {M : Type 1} → statement M
 copy-words-spec =
     tie.close
     (tie.spec
-    (λ c. search needs)
-    (λ c. search needs)
-    (λ c. search needs)
+    (λ c. search needs) (λ c. search needs) (λ c. search needs)
     (λ c. let s = start c in omega (arith, first s (s .args .j) (s .pre .1)))
     (λ c. let s = start c in omega (arith, first s (s .args .j) (s .pre .1)))
     (λ c. let s = start c in omega (arith, first s (s .args .k) (s .pre .2)))
-    (λ c. let s = start c in omega (arith, first s (s .args .k) (s .pre .2)))
-    copy-word-part-requires
-    (λ c. search needs)
-    returns)
+    (λ c. let s = start c in omega (arith, first s (s .args .k) (s .pre .2))) copy-word-part-requires
+    (λ c. search needs) returns)

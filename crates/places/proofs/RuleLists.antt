@@ -1,4 +1,4 @@
--- Rules by what the code read: row 6 of one entry, and the lists of rows 4 and 7.
+-- What the code read, as rules: row 6 of one entry, and the lists of rows 4 and 7.
 use Prim.Native.Nat.{ℕ, zero, suc, _+_, _-_}
 use mathlib.Core.Path.{_≡_, refl, ap, _∙_}
 use mathlib.Core.Bool.{Bool}

@@ -18,7 +18,7 @@ FUZZ_SECONDS = 3600
 MEMORY = 300
 SEED = 20261115
 
-.PHONY: run test bench fuzz fuzzer long-compare harness oracle-tests c-tests inspect-tests memory scenarios
+.PHONY: run test bench fuzz fuzzer fuzz-check long-compare harness oracle-tests c-tests inspect-tests memory scenarios
 
 run:
 	rt check tallies
@@ -40,6 +40,10 @@ fuzz: fuzzer
 fuzzer: target/fuzz/libengine.a
 	cd fuzz && ENGINE_DIR=../target/fuzz $(CARGO) build --release
 	clang -fsanitize=fuzzer,address fuzz/target/release/libfuzz.a -lm -o target/fuzz/fuzz
+
+# That the target still compiles, with the library as it is.
+fuzz-check: $(LIBRARY)
+	cd fuzz && $(CARGO) check -q --release
 
 target/fuzz/libengine.a: fuzz/instrument $(LIBRARY)
 	fuzz/instrument

@@ -11,22 +11,6 @@ use oracle::case::{Alinea, Setting};
 use oracle::file::Network;
 use oracle::stored;
 
-const FUNCTIONS: [Function; 14] = [
-    Function::Sound,
-    Function::Start,
-    Function::Sign,
-    Function::MeterOpen,
-    Function::MeterFixed,
-    Function::MeterAlinea,
-    Function::Step,
-    Function::Hold,
-    Function::Recall,
-    Function::Drop,
-    Function::Report,
-    Function::ReportSegment,
-    Function::RunCount,
-    Function::Write,
-];
 /// More words than any report has figures.
 const FIGURES: usize = 24;
 /// More bytes than any file has.
@@ -35,7 +19,7 @@ const FILE: usize = 7200;
 /// The next call on the study. A right one suits what the arrays hold, or the
 /// given network where they hold none.
 pub fn next(input: &mut Input, followed: &Followed, network: &Network) -> Call {
-    let function = FUNCTIONS[input.below(FUNCTIONS.len())];
+    let function = Function::ALL[input.below(Function::ALL.len())];
     let kind = input.below(4);
     if kind > 1 {
         return any(input, function, network);

@@ -64,6 +64,26 @@ pub enum Function {
     Write,
 }
 
+impl Function {
+    /// All of them: Sound and Start, then those that ask a study or change it.
+    pub const ALL: [Function; 14] = [
+        Function::Sound,
+        Function::Start,
+        Function::Sign,
+        Function::MeterOpen,
+        Function::MeterFixed,
+        Function::MeterAlinea,
+        Function::Step,
+        Function::Hold,
+        Function::Recall,
+        Function::Drop,
+        Function::Report,
+        Function::ReportSegment,
+        Function::RunCount,
+        Function::Write,
+    ];
+}
+
 /// Arguments of Start. Every number of the lists fits 32 bits.
 #[derive(Clone, Debug)]
 pub struct Start {

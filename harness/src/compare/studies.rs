@@ -17,22 +17,6 @@ use oracle::file::Network;
 
 /// The study is not sound.
 const NOT_SOUND: u64 = 12;
-/// All that are asked before Start.
-const FUNCTIONS: [Function; 12] = [
-    Function::Sign,
-    Function::MeterOpen,
-    Function::MeterFixed,
-    Function::MeterAlinea,
-    Function::Step,
-    Function::Hold,
-    Function::Recall,
-    Function::Drop,
-    Function::Report,
-    Function::ReportSegment,
-    Function::RunCount,
-    Function::Write,
-];
-
 /// Arrays that a test is about to lend.
 pub struct Made {
     what: String,
@@ -78,8 +62,9 @@ impl Made {
         if self.number.is_some_and(|number| number != sound) {
             return Err(both.differs(&format!("{sound} from both sides")));
         }
-        let first = random.below(FUNCTIONS.len() as u64) as usize;
-        let (after, before) = (&FUNCTIONS[first..], &FUNCTIONS[..first]);
+        let asked = &Function::ALL[2..];
+        let first = random.below(asked.len() as u64) as usize;
+        let (before, after) = asked.split_at(first);
         for &function in after.iter().chain(before) {
             let right = random.once_in(2);
             let call = scene.call(random, function, right);

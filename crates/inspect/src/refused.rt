@@ -25,6 +25,9 @@ fn length(file: &[u8]) {
     let c = network::byte_of(file, 7);
     let n = network::byte_of(file, 6);
     print::told(b"length: ", file.len() as u64, b" bytes");
+    if 65535 < file.len() {
+        print::say(b" or more");
+    }
     print::told(b", must be ", 16 + 804 * c + 16 * n, b", as the head says");
     print::told(b" with ", c, b" curves");
     print::told(b" and ", n, b" segments");

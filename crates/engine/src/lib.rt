@@ -8,7 +8,7 @@ ghost use Rattle.network.specs.Words.{writeNumber, writeBytes};
 ghost use Rattle.model.specs.Sound.{singleNumber, singleWords, singleSpeeds};
 ghost use Rattle.study.specs.declared.Setting.the-variants.{Open, Fixed, Alinea};
 ghost use Rattle.study.specs.Calls.{start, sign, meter, step, hold, recall, dropSlot, report, reportSegment, reportRuns, verdictSays};
-ghost use Rattle.study.specs.Write.{writtenBytes, writeAnswer, writtenSays};
+ghost use Rattle.study.specs.Write.{writtenBytes, writeAnswer};
 ghost use Rattle.engine.specs.Place.{placeNumber, placeWords, placeFigures};
 ghost use Rattle.engine.specs.Study.{soundness, numberOf, putNumber, putFigures, Called, Reported};
 

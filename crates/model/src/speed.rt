@@ -5,7 +5,6 @@ use network::Head;
 use network::Segment;
 ghost use mathlib.Core.Path.{_≡_};
 ghost use Prim.Native.Nat.{_<_, _≤_};
-ghost use lib.ListN.{length};
 ghost use Rattle.laws.specs.Real.{real};
 ghost use Rattle.network.specs.Words.{entryIn};
 ghost use Rattle.network.specs.Accepted.{HeadWithin, CurveWithin};

@@ -7,7 +7,6 @@ ghost use mathlib.Core.Path.{_≡_};
 ghost use Prim.Native.Nat.{_+_, _<_, _≤_};
 ghost use mathlib.Core.Bool.{_&&_, _||_};
 ghost use lib.Dec.{eqb, ltb};
-ghost use lib.ListN.{length};
 ghost use Rattle.laws.specs.First.{firstOf, outside};
 ghost use Rattle.network.specs.Network.{segmentBad, tooFast};
 ghost use Rattle.network.specs.File.{segmentAt, recordPadding, recordNumber};

@@ -10,7 +10,7 @@ ghost use lib.ListN.{length};
 ghost use Rattle.laws.specs.First.{firstOf};
 ghost use Rattle.network.specs.Network.{rising, curveNumber, segmentNumber, rowsNumber};
 ghost use Rattle.network.specs.Words.{headIn, entryIn, segmentIn};
-ghost use Rattle.network.specs.Accepted.{Kept, CurvesKept};
+ghost use Rattle.network.specs.Accepted.{CurvesKept};
 
 pub(crate) fn head_in(kept: &[u64]) -> Head
     ensures { λ r. ⌜ r ≡ headIn (now (kept .entry)) ⌝ }

@@ -1,20 +1,20 @@
 -- A row whose rules are all kept does not refuse; so where it refuses, a rule is broken.
-use Prim.Native.Nat.{ℕ, zero, suc, _+_, _*_, _/_, _%_, _<_, _≤_}
+use Prim.Native.Nat.{ℕ, _+_, _≤_}
 use mathlib.Core.Bool.{Bool, true, false, _||_, _&&_, not, true≢false}
-use mathlib.Core.List.{List, [], _∷_, _++_}
+use mathlib.Core.List.{List}
 use mathlib.Core.Path.{_≡_, refl, sym, ap, _∙_}
 use native.Mathlib.Omega.{arith}
 use native.Mathlib.Nat.{add-assoc}
 use lib.Dec.{ltb, eqb}
-use lib.ListN.{length, getD}
-use borrow.Author.Tests.{ltb-true, ltb-false, le-ltb, not-true, not-false}
+use lib.ListN.{getD}
+use borrow.Author.Tests.{ltb-false, le-ltb, not-false}
 use Rattle.laws.specs.First.{row, anyOf}
 use Rattle.laws.specs.BigEndian.{byteAt, u16At}
 use Rattle.laws.specs.Search.{firstHeld}
 use Rattle.laws.proofs.Search.{held}
 use Rattle.laws.proofs.Tests.{anyOf-false, anyOf-none, front-false}
 use Rattle.network.specs.Network.{headBad, headTests, segmentBad, segmentTests, fieldThenSpeed}
-use Rattle.network.specs.File.{hasMark, headOf, headPadding, headNumber, recordStart, segmentOn, recordPadding, recordNumber, fileNumber}
+use Rattle.network.specs.File.{hasMark, headOf, headPadding, headNumber, recordStart, segmentOn, recordPadding, recordNumber}
 use Rattle.places.specs.Place.{notZero, markRules, headZeros, headRules, recordZeros, recordRules}
 
 -- ---- of five rows, which applied

@@ -1,20 +1,19 @@
 -- The place of a refusal is right.
 use Prim.Native.Nat.{ℕ, suc, _+_, _*_, _/_, _%_, _<_, _≤_}
-use mathlib.Core.Bool.{Bool, true, false, true≢false}
+use mathlib.Core.Bool.{Bool, true, false}
 use mathlib.Core.List.{List}
 use mathlib.Core.Path.{_≡_, refl, sym, ap, _∙_}
 use native.Mathlib.Omega.{arith}
 use native.Mathlib.Nat.{suc-ne-zero}
 use native.Mathlib.Numerals.{add-one}
 use lib.Dec.{ltb}
-use lib.ListN.{getD}
 use borrow.Author.Tests.{ltb-true, ltb-false, ne-eqb, lt-ltb, lt-leb}
-use Rattle.laws.specs.First.{row, firstOf}
-use Rattle.laws.specs.Search.{firstWhere, firstHeld}
+use Rattle.laws.specs.First.{row}
+use Rattle.laws.specs.Search.{firstHeld}
 use Rattle.laws.proofs.First.{row-applies, row-skipped, first-zero, firstOf-all, firstOf-found}
 use Rattle.laws.proofs.Search.{where-found, where-below}
 use Rattle.network.specs.Network.{rising, curveNumber}
-use Rattle.network.specs.File.{headOf, headNumber, entryOn, curveIn, curvesNumber, recordNumber, recordCallNumber, recordsNumber, fileNumber}
+use Rattle.network.specs.File.{headOf, entryOn, curveIn, curvesNumber, recordNumber, recordCallNumber, recordsNumber, fileNumber}
 use Rattle.network.proofs.File.{head-accepted}
 use Rattle.places.specs.Place.{markRules, headRules, entryBad, badEntry, badRecord, recordRules, partOf, ruleOf, headOffset, offsetOf, placeOf}
 use Rattle.places.specs.Statements.{Placed}

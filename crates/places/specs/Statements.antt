@@ -1,9 +1,8 @@
 -- What is shown of the place of a refusal: it lies in the file's own parts, and what stands there is what the row refuses.
-use Prim.Native.Nat.{_<_}
+use Prim.Native.Nat.{ℕ, _<_}
 use mathlib.Core.Path.{_≡_}
 use mathlib.Core.Bool.{true, false}
 use mathlib.Core.List.{List}
-use Prim.Native.Nat.{ℕ}
 use lib.ListN.{getD}
 use Rattle.network.specs.File.{headOf, entryOn, recordNumber, fileNumber}
 use Rattle.places.specs.Place.{markRules, headRules, entryBad, recordRules, placeOf}

@@ -1,13 +1,13 @@
 -- What a sign and a setting put into a segment's row.
 use Prim.Native.Nat.{ℕ, zero, suc, _+_, _-_}
 use mathlib.Core.Bool.{Bool, _&&_, _||_, not}
-use mathlib.Core.List.{List, [], _∷_}
-use lib.Dec.{ltb, leb, eqb}
+use mathlib.Core.List.{[], _∷_}
+use lib.Dec.{ltb, eqb}
 use lib.IntN.{ℤ, pos, negsuc}
 use lib.ListN.{set}
 use Rattle.laws.specs.First.{anyOf, outside}
 use Rattle.model.specs.declared.Row.{Row}
-use Rattle.model.specs.Case.{Case, openKind, fixedKind, alineaKind, rowOf}
+use Rattle.model.specs.Case.{Case, openKind, fixedKind, alineaKind}
 use Rattle.study.specs.declared.Setting.{Setting}
 use Rattle.study.specs.declared.Setting.the-variants.{Open, Fixed, Alinea}
 

@@ -1,12 +1,11 @@
 -- Demand 3: one claim about any list of calls.
-use Prim.Native.Nat.{ℕ, zero, suc, _+_}
+use Prim.Native.Nat.{ℕ, _+_}
 use mathlib.Core.Path.{_≡_}
 use mathlib.Core.Bool.{Bool, true, false, _&&_, _||_, not}
 use mathlib.Core.List.{List, [], _∷_, _++_}
-use mathlib.Core.Option.{Option, some}
+use mathlib.Core.Option.{some}
 use lib.Dec.{leb, eqb}
 use lib.ListN.{length, getD, drop}
-use lib.Ieee.{Float}
 use Rattle.laws.specs.Sums.{sumOf}
 use Rattle.network.specs.Network.{Network}
 use Rattle.network.specs.File.{networkOf}
@@ -16,7 +15,7 @@ use Rattle.study.specs.Arrangement.{wordsFor, speedsFor, networkAt, runC
 use Rattle.study.specs.Sound.{sound}
 use Rattle.study.specs.Calls.{Call, start, sign, meter, step, hold, recall, dropSlot, report, reportSegment, reportRuns, Answer, refused, accepted, figures}
 use Rattle.study.specs.Start.{startCase}
-use Rattle.study.specs.Perform.{Arrays, Outcome, refusalAt, perform}
+use Rattle.study.specs.Perform.{Arrays, refusalAt, perform}
 use Rattle.study.specs.Book.{Line, Book, isFilled, caseOf, arrivalsOf, exitsOf, enter}
 
 -- ---- the list on the arrays: each later call gets the arrays as the one before left them

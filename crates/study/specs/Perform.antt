@@ -3,7 +3,7 @@ use Prim.Native.Nat.{ℕ, zero, suc, _+_, _-_, _*_}
 use mathlib.Core.Path.{_≡_}
 use mathlib.Core.Bool.{Bool, true, false, _||_, not}
 use mathlib.Core.List.{List, [], _∷_, _++_}
-use lib.ListN.{length, getD, set, drop, replicate}
+use lib.ListN.{length, set, drop, replicate}
 use lib.IntN.{ℤ}
 use lib.Ieee.{Float, binary64, toBits, toUnsigned}
 use Rattle.laws.specs.First.{row}
@@ -12,7 +12,6 @@ use Rattle.laws.specs.Sums.{sumOf}
 use Rattle.network.specs.Network.{Network, segmentOf}
 use Rattle.network.specs.File.{networkOf}
 use Rattle.network.specs.Words.{keptWords}
-use Rattle.model.specs.declared.Row.{Row}
 use Rattle.model.specs.Case.{Case, rowOf}
 use Rattle.model.specs.Step.{rateOf}
 use Rattle.model.specs.Words.{codedWords, codedSpeeds, stepCaseWords, stepCaseSpeeds}

@@ -1,7 +1,6 @@
 -- The table of refusals, after 12. Arrays and book are judged by this one definition.
 use Prim.Native.Nat.{ℕ, _-_}
-use mathlib.Core.Bool.{Bool, _&&_, _||_, not}
-use mathlib.Core.List.{List}
+use mathlib.Core.Bool.{Bool, _||_, not}
 use lib.Dec.{ltb, leb, eqb}
 use Rattle.laws.specs.First.{outside, row, first}
 use Rattle.network.specs.Network.{Network, entryOf, segmentOf}

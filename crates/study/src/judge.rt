@@ -2,8 +2,6 @@
 ghost use mathlib.Core.Path.{_≡_};
 ghost use Prim.Native.Nat.{_+_, _<_, _≤_};
 ghost use Rattle.laws.specs.First.{firstOf};
-ghost use Rattle.model.specs.Sound.{caseNumberIn};
-ghost use Rattle.study.specs.Arrangement.{caseWord, caseSpeed};
 ghost use Rattle.study.specs.Sound.{placeNumber, slotNumber, casesNumber, soundNumber};
 ghost use Rattle.study.specs.Ready.{Laid};
 

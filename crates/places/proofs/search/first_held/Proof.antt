@@ -1,7 +1,6 @@
 -- A search of the tests that are left finds the same.
 use Prim.Native.Nat.{_-_}
 use mathlib.Core.Bool.{false}
-use mathlib.Core.Path.{_∙_}
 use lib.ListN.{length, getD}
 use borrow.Author.Needs.{needs}
 use Rattle.laws.proofs.Search.{Searching, search-begun, search-found, search-passed, search-end}

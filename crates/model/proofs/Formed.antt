@@ -71,10 +71,6 @@ module _ (h : Head) (s : Segment) (f : ℕ) (r : Row) (t d : ℕ) (merges : Bool
   unfolding made
   new-rate = refl
 
-  new-kind : new .kind ≡ r .kind
-  unfolding made
-  new-kind = refl
-
   open-kept : r .kind ≡ 0 → openBad s r ≡ false → openBad s new ≡ false
   unfolding openBad
   open-kept e z =

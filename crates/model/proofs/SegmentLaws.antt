@@ -75,10 +75,6 @@ module _ {h : Head} {s : Segment} {f : ℕ} {r : Row} (S : SegmentOk h s f) (R :
       pick false true = S .most-high
       pick false false = R .rate
 
-  pub release-high : (t d : ℕ) → releaseNow s r t d ≤ 300000
-  unfolding releaseNow
-  release-high t d = omega (arith, rate-high t)
-
   pub release-waits : (t d : ℕ) → releaseNow s r t d ≤ r .queue + d
   unfolding releaseNow
   release-waits t d = omega arith

@@ -5,13 +5,13 @@ use mathlib.Core.Path.{_≡_, _∙_}
 use lib.ListN.{length, drop}
 use borrow.Author.Tests.{ltb-false, lt-ltb, le-ltb}
 use Rattle.laws.proofs.First.{row-passed, row-later, row-applies, row-skipped, first-some, first-zero, when-accepted, when-refused}
-use Rattle.network.specs.Network.{rowsNumber, networkNumber}
+use Rattle.network.specs.Network.{rowsNumber}
 use Rattle.network.specs.File.{fileSize}
 use Rattle.network.specs.Written.{fileOf}
 use Rattle.network.specs.Words.{headIn, entryIn, segmentIn, networkIn, keptNumber, writeNumber, writeBytes}
 use Rattle.network.specs.Accepted.{RowsWithin, Formed, Kept}
 use Rattle.network.proofs.Rows.{rows-within}
-use Rattle.network.proofs.From.{from-formed, from-number}
+use Rattle.network.proofs.From.{from-formed}
 
 module _ (ws : List ℕ) where
   -- ---- what acceptance says
@@ -29,10 +29,6 @@ module _ (ws : List ℕ) where
 
     pub kept-head : Kept ws (headIn ws)
     kept-head = record { within = kept-within .head; long = kept-long }
-
-    -- the network that is kept is within rows 4, 6, 7 and 8
-    pub kept-accepted : networkNumber (networkIn ws) ≡ 0
-    kept-accepted = from-number (headIn ws) (entryIn ws) (segmentIn ws) ∙ kept-rows
 
   pub kept-formed : Formed (networkIn ws)
   kept-formed = from-formed (headIn ws) (entryIn ws) (segmentIn ws)

@@ -14,7 +14,7 @@ use Rattle.laws.proofs.Tests.{or-left, or-right, and-left, and-right}
 use Rattle.network.specs.Words.{keptNumber}
 use Rattle.network.proofs.Keeping.{kept-within}
 use Rattle.model.specs.Words.{netOf}
-use Rattle.study.specs.Arrangement.{wordsFor, speedsFor, sizeAt, runCountAt, markAt, filledAt}
+use Rattle.study.specs.Arrangement.{wordsFor, speedsFor, sizeAt, markAt, filledAt}
 use Rattle.study.specs.Sound.{placeNumber, slotNumber, casesNumber, soundNumber, sound}
 use Rattle.study.specs.Ready.{Laid}
 
@@ -42,10 +42,6 @@ module _ (words : List ℕ) (speeds : List Float) (s : sound words speeds ≡ tr
         room = ltb-false _ _ (or-left (ltb (length words) (wordsFor (sizeAt words))) _ long);
         lane = ltb-false _ _ (or-right (ltb (length words) (wordsFor (sizeAt words))) (ltb (length speeds) (speedsFor (sizeAt words))) long);
       }
-
-  pub runs-high : runCountAt words ≤ 1000000
-  unfolding casesNumber
-  runs-high = ltb-false _ _ (row-passed _ _ _ cases)
 
   pub live-sound : placeNumber words speeds 0 ≡ 0
   unfolding casesNumber

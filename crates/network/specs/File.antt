@@ -3,7 +3,7 @@ use Prim.Native.Nat.{ℕ, _+_, _*_}
 use mathlib.Core.Bool.{Bool, _||_, _&&_, not}
 use mathlib.Core.List.{List, [], _∷_}
 use lib.ListN.{length, getD}
-use lib.Dec.{ltb, leb, eqb}
+use lib.Dec.{ltb, eqb}
 use Rattle.laws.specs.First.{row, first, firstOf}
 use Rattle.laws.specs.BigEndian.{byteAt, u16At, u32At}
 use Rattle.network.specs.declared.Head.{Head}
@@ -111,10 +111,6 @@ recordNumber b h i =
     let at = recordStart h i in
     let s = segmentAt b at in
     fieldThenSpeed (segmentBad h i s || recordPadding b at) h (entryAt b (curveStart (s .curve)) 0) s
-
--- record i by itself: what refuses the head, then what refuses the record; 0 where the head says that there are fewer
-unfoldable pub recordCallNumber : List ℕ → ℕ → ℕ
-recordCallNumber b i = first (headNumber b) (row (leb (headOf b .size) i) 0 (recordNumber b (headOf b) i))
 
 unfoldable pub recordsNumber : List ℕ → ℕ
 recordsNumber b = firstOf (recordNumber b (headOf b)) (headOf b .size)

@@ -10,7 +10,7 @@ mod writer; // writer.rt: a kept network as bytes
 ghost use mathlib.Core.Path.{_≡_};
 ghost use Prim.Native.Nat.{_<_};
 ghost use Rattle.laws.specs.BigEndian.{byteAt};
-ghost use Rattle.network.specs.File.{headOf, entryOn, segmentOn, recordCallNumber, fileNumber};
+ghost use Rattle.network.specs.File.{headOf, entryOn, segmentOn, fileNumber};
 ghost use Rattle.network.specs.Curve.{curveCallNumber, curveBytes};
 ghost use Rattle.network.specs.Words.{headIn, entryIn, segmentIn, keptNumber, writeNumber, writeBytes, keepNumber, keepWords};
 
@@ -86,21 +86,6 @@ pub fn curve(file: &[u8], k: u64) -> &[u8]
     &file[at..at + 804]
 }
 
-// The number that refuses record i, counted from 0, or the head before it; 0 where nothing does or where there is no such record.
-pub fn record_number(file: &[u8], i: u32) -> u64
-    ensures { λ r. ⌜ r ≡ recordCallNumber (now (file .entry)) i ⌝ }
-{
-    let in_head = heads::head_number(file);
-    if in_head != 0 {
-        return in_head;
-    }
-    let h = heads::read_head(file);
-    if h.size <= i as u64 {
-        return 0;
-    }
-    records::record_row(file, h, i as usize)
-}
-
 // Byte i of a file; past its end it reads as 0.
 pub fn byte_of(file: &[u8], i: u32) -> u64
     ensures { λ r. ⌜ (r ≡ byteAt (now (file .entry)) i) × (r < 256) ⌝ }
@@ -117,7 +102,7 @@ pub fn head_of(file: &[u8]) -> Head
 
 // Entry j of curve k, both counted from 0, of a file of any content; a byte past its end reads as 0.
 pub fn entry_of(file: &[u8], k: u32, j: u32) -> u64
-    ensures { λ r. ⌜ r ≡ entryOn (now (file .entry)) k j ⌝ }
+    ensures { λ r. ⌜ (r ≡ entryOn (now (file .entry)) k j) × (r < 4294967296) ⌝ }
 {
     number::u32_at(file, 16 + 804 * (k as usize) + 4 * (j as usize))
 }

@@ -86,7 +86,7 @@ pub(crate) fn too_fast(h: Head, first: u64, s: Segment) -> bool
     3600 * s.metres < first * h.step
 }
 
-pub(crate) fn record_row(file: &[u8], h: Head, i: usize) -> u64
+fn record_row(file: &[u8], h: Head, i: usize) -> u64
     requires { ⌜ Sized (now file) h ⌝ }
     requires { ⌜ i < h .size ⌝ }
     ensures { λ r. ⌜ r ≡ recordNumber (now (file .entry)) h i ⌝ }

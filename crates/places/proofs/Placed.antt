@@ -1,24 +1,25 @@
 -- The place of a refusal is right.
 use Prim.Native.Nat.{ℕ, suc, _+_, _*_, _/_, _%_, _<_, _≤_}
-use mathlib.Core.Bool.{Bool, true, false}
+use mathlib.Core.Bool.{Bool, true, false, true≢false}
 use mathlib.Core.List.{List}
 use mathlib.Core.Path.{_≡_, refl, sym, ap, _∙_}
 use native.Mathlib.Omega.{arith}
 use native.Mathlib.Nat.{suc-ne-zero}
 use native.Mathlib.Numerals.{add-one}
 use lib.Dec.{ltb}
-use borrow.Author.Tests.{ltb-true, ltb-false, ne-eqb, lt-ltb, lt-leb}
-use Rattle.laws.specs.First.{row}
+use borrow.Author.Tests.{ne-eqb, lt-ltb}
+use Rattle.laws.specs.First.{row, anyOf}
 use Rattle.laws.specs.Search.{firstHeld}
-use Rattle.laws.proofs.First.{row-applies, row-skipped, first-zero, firstOf-all, firstOf-found}
+use Rattle.laws.proofs.First.{row-applies, row-skipped, row-passed, row-later, firstOf-all, firstOf-found}
+use Rattle.laws.proofs.Tests.{or-left, or-right}
 use Rattle.laws.proofs.Search.{where-found, where-below}
-use Rattle.network.specs.Network.{rising, curveNumber}
-use Rattle.network.specs.File.{headOf, entryOn, curveIn, curvesNumber, recordNumber, recordCallNumber, recordsNumber, fileNumber}
+use Rattle.network.specs.Network.{rising, curveNumber, fieldThenSpeed}
+use Rattle.network.specs.File.{headOf, entryOn, curveIn, curvesNumber, recordNumber, recordsNumber, fileNumber}
 use Rattle.network.proofs.File.{head-accepted}
-use Rattle.places.specs.Place.{markRules, headRules, entryBad, badEntry, badRecord, recordRules, partOf, ruleOf, headOffset, offsetOf, placeOf}
+use Rattle.places.specs.Place.{markRules, headRules, entryBad, badEntry, tooShort, recordBad, badRecord, recordRules, partOf, ruleOf, headOffset, offsetOf, placeOf}
 use Rattle.places.specs.Statements.{Placed}
 use Rattle.places.proofs.Numbers.{file-parts}
-use Rattle.places.proofs.Broken.{mark-broken, head-broken, record-broken}
+use Rattle.places.proofs.Broken.{mark-broken, head-broken, record-kept, record-passed, record-broken}
 
 -- ---- the parts of a place, by the number
 
@@ -81,40 +82,40 @@ module _ (b : List ℕ) where
       let few : headOf b .curves ≤ 8 = head-accepted b (part .0) .sized .within .curves-high in
       where-below refusedAt (201 * headOf b .curves) 1608 (omega (arith, few)) (λ each. suc-ne-zero 5 (sym (part .1) ∙ curves-kept each))
 
--- ---- rows 7 and 8: a record is asked by itself, where the head accepts
+-- ---- rows 7 and 8
+
+module _ (b : List ℕ) where
+  passed : (i : ℕ) → recordBad b i ≡ false → recordNumber b (headOf b) i ≡ 0
+  unfolding recordBad recordNumber fieldThenSpeed
+  passed i e = row-skipped _ _ _ (record-kept b i (or-left _ (tooShort b i) e)) ∙ row-skipped _ _ _ (or-right (anyOf (recordRules b i)) _ e)
+
+  refuses : (i : ℕ) → recordBad b i ≡ true → recordNumber b (headOf b) i ≡ 0 → ⊥
+  unfolding recordBad recordNumber fieldThenSpeed
+  refuses i e z =
+      let rules : anyOf (recordRules b i) ≡ false = record-passed b i (row-passed _ _ _ z) in
+      let short : tooShort b i ≡ false = row-passed _ _ _ (row-later _ _ _ z) in
+      true≢false (sym e ∙ rw (rules, short) refl)
 
 module _ (b : List ℕ) (later : 6 < fileNumber b) where
-  called : (i : ℕ) → i < headOf b .size → recordCallNumber b i ≡ recordNumber b (headOf b) i
-  unfolding recordCallNumber
-  called i l = first-zero _ _ (file-parts b .records later .0) ∙ row-skipped _ _ _ (lt-leb _ _ l)
-
-  abbrev callRefused : ℕ → Bool
-  callRefused i = ltb 0 (recordCallNumber b i)
-
-  passed : (i : ℕ) → i < headOf b .size → callRefused i ≡ false → recordNumber b (headOf b) i ≡ 0
-  passed i l e = let z : recordCallNumber b i ≤ 0 = ltb-false 0 (recordCallNumber b i) e in sym (called i l) ∙ omega (arith, z)
-
-  records-refused : ((i : ℕ) → i < headOf b .size → callRefused i ≡ false) → ⊥
+  records-refused : ((i : ℕ) → i < headOf b .size → recordBad b i ≡ false) → ⊥
   unfolding recordsNumber
   records-refused each =
-      let none = firstOf-all (recordNumber b (headOf b)) (headOf b .size) (λ i l. passed i l (each i l)) in
+      let none = firstOf-all (recordNumber b (headOf b)) (headOf b .size) (λ i l. passed b i (each i l)) in
       omega (arith, later, sym (file-parts b .records later .1) ∙ none)
 
   -- the record that is found is one of the file's, and is refused by the file's number
-  record-below : (badRecord b < headOf b .size) × (callRefused (badRecord b) ≡ true)
+  record-below : (badRecord b < headOf b .size) × (recordBad b (badRecord b) ≡ true)
   unfolding badRecord
   record-below =
       let few : headOf b .size ≤ 40 = head-accepted b (file-parts b .records later .0) .sized .within .size-high in
-      where-below callRefused (headOf b .size) 40 few records-refused
+      where-below (recordBad b) (headOf b .size) 40 few records-refused
 
   record-found : recordNumber b (headOf b) (badRecord b) ≡ fileNumber b
   unfolding badRecord recordsNumber
   record-found =
-      let l = record-below .0 in
-      let before = where-found callRefused 40 .none in
-      let none = firstOf-all (recordNumber b (headOf b)) (badRecord b) (λ i h. passed i (omega (arith, h, l)) (before i (omega arith) h)) in
-      let some = ltb-true 0 (recordCallNumber b (badRecord b)) (record-below .1) in
-      firstOf-found (recordNumber b (headOf b)) (headOf b .size) (badRecord b) l none refl (λ z. omega (arith, some, called (badRecord b) l, z))
+      let before = where-found (recordBad b) 40 .none in
+      let none = firstOf-all (recordNumber b (headOf b)) (badRecord b) (λ i h. passed b i (before i (omega arith) h)) in
+      firstOf-found (recordNumber b (headOf b)) (headOf b .size) (badRecord b) (record-below .0) none refl (refuses b (badRecord b) (record-below .1))
       ∙ file-parts b .records later .1
 
 -- ---- the statement

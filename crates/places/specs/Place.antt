@@ -1,14 +1,14 @@
 -- Where a refused file is wrong, as a function of its bytes: in which part, by which rule of the row that refuses it, at which byte.
 use Prim.Native.Nat.{ℕ, zero, suc, _+_, _*_, _/_, _%_, min}
-use mathlib.Core.Bool.{Bool, not}
+use mathlib.Core.Bool.{Bool, _||_, not}
 use mathlib.Core.List.{List, [], _∷_, _++_}
 use lib.ListN.{length, getD}
 use lib.Dec.{ltb, eqb}
-use Rattle.laws.specs.First.{outside, row}
+use Rattle.laws.specs.First.{anyOf, outside, row}
 use Rattle.laws.specs.Search.{firstWhere, firstHeld}
 use Rattle.laws.specs.BigEndian.{byteAt}
-use Rattle.network.specs.Network.{headTests, segmentTests}
-use Rattle.network.specs.File.{mark, headOf, fileSize, entryOn, segmentOn, recordStart, recordCallNumber, fileNumber}
+use Rattle.network.specs.Network.{headTests, segmentTests, tooFast}
+use Rattle.network.specs.File.{mark, headOf, fileSize, entryOn, segmentOn, recordStart, fileNumber}
 use Rattle.places.specs.declared.Place.{Place}
 
 -- ---- 2: the first byte that is not the mark's
@@ -44,12 +44,8 @@ entryBad e (suc j) = ltb (e j) (e (suc j))
 unfoldable pub badEntry : List ℕ → ℕ
 badEntry b = firstWhere (λ m. entryBad (entryOn b (m / 201)) (m % 201)) 1608
 
--- ---- 7 and 8: the first record that is refused
+-- ---- 7: the rules of record i: its fields as row 7 has them, then its bytes that are zero
 
-unfoldable pub badRecord : List ℕ → ℕ
-badRecord b = firstWhere (λ i. ltb 0 (recordCallNumber b i)) 40
-
--- 7: the rules of record i: its fields as row 7 has them, then its bytes that are zero
 abbrev pub recordZeros : List ℕ → ℕ → List Bool
 recordZeros b i =
     let at = recordStart (headOf b) i in
@@ -60,6 +56,19 @@ recordRules b i = segmentTests (headOf b) i (segmentOn b i) ++ recordZeros b i
 
 abbrev pub recordFields : List ℕ
 recordFields = 0 ∷ 2 ∷ 3 ∷ 4 ∷ 4 ∷ 5 ∷ 6 ∷ 6 ∷ 8 ∷ 8 ∷ 10 ∷ 10 ∷ 7 ∷ 14 ∷ 15 ∷ []
+
+-- ---- 8: F × T > 3600 × L of record i
+
+abbrev pub tooShort : List ℕ → ℕ → Bool
+tooShort b i = let s = segmentOn b i in tooFast (headOf b) (entryOn b (s .curve) 0) s
+
+-- ---- 7 and 8: the first record that is refused
+
+unfoldable pub recordBad : List ℕ → ℕ → Bool
+recordBad b i = anyOf (recordRules b i) || tooShort b i
+
+unfoldable pub badRecord : List ℕ → ℕ
+badRecord b = firstWhere (recordBad b) 40
 
 -- ---- the place, by the number that refuses
 

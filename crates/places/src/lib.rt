@@ -1,6 +1,6 @@
 // Where a network file is wrong: the number that refuses it, and the part, the rule and the byte that it is refused for.
-mod search; // search.rt: the first test that holds, the first entry and the first record that are refused
-mod rules; // rules.rt: the rules of rows 2, 4 and 7, one by one
+mod rules; // rules.rt: the rules of rows 2, 4 and 7, one by one, and the first that is broken
+mod search; // search.rt: the first entry and the first record that are refused
 mod offsets; // offsets.rt: part, rule and byte, by the number that refuses
 
 ghost use mathlib.Core.Path.{_≡_};

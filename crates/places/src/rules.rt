@@ -1,5 +1,4 @@
-// The rules of rows 2, 4 and 7, one by one, in the order of their definitions.
-use crate::search;
+// The rules of rows 2, 4 and 7, one by one, in the order of their definitions, and the first that is broken.
 ghost use mathlib.Core.Path.{_≡_};
 ghost use Prim.Native.Nat.{_<_, _≤_};
 ghost use mathlib.Core.List.{[], _∷_, _++_};
@@ -10,6 +9,20 @@ ghost use Rattle.network.specs.Network.{headTests, segmentTests};
 ghost use Rattle.network.specs.File.{headOf, recordStart};
 ghost use Rattle.places.specs.Place.{markRules, headRules, headFields, recordRules, recordFields};
 
+// The place of the first test that holds, and their number where none does.
+pub(crate) fn first_held(tests: &[bool]) -> u64
+    ensures { λ r. ⌜ r ≡ firstHeld (now (tests .entry)) ⌝ }
+{
+    let mut i = 0;
+    while i < tests.len() {
+        if tests[i] {
+            return i as u64;
+        }
+        i += 1;
+    }
+    i as u64
+}
+
 // The first byte that is not the mark's, "FWN".
 pub(crate) fn mark_rule(file: &[u8]) -> u64
     ensures { λ r. ⌜ r ≡ firstHeld (markRules (now (file .entry))) ⌝ }
@@ -19,7 +32,7 @@ pub(crate) fn mark_rule(file: &[u8]) -> u64
         network::byte_of(file, 1) != 87,
         network::byte_of(file, 2) != 78,
     ];
-    search::first_held(&rules)
+    first_held(&rules)
 }
 
 // Whether each rule of the head is broken, with the bytes 11, 14 and 15.
@@ -49,7 +62,7 @@ pub(crate) fn head_rule(file: &[u8]) -> u64
     let z14 = network::byte_of(file, 14);
     let z15 = network::byte_of(file, 15);
     let rules = head_rules(h, z11, z14, z15);
-    search::first_held(&rules)
+    first_held(&rules)
 }
 
 // The byte of the head that a rule is about.
@@ -115,7 +128,7 @@ pub(crate) fn record_rule(file: &[u8], i: u32) -> u64
     let h = network::head_of(file);
     let s = network::segment_of(file, i);
     let rules = record_rules(h, i as u64, s, z7, z14, z15);
-    search::first_held(&rules)
+    first_held(&rules)
 }
 
 // The byte of a record that a rule is about.

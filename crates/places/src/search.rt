@@ -1,23 +1,9 @@
-// Searches: the first test of a list that holds, and the first entry and the first record of a file that are refused.
+// The first entry and the first record of a file that are refused.
+use crate::rules;
 ghost use mathlib.Core.Path.{_≡_};
 ghost use Prim.Native.Nat.{_≤_};
-ghost use Rattle.laws.specs.Search.{firstHeld};
 ghost use Rattle.network.specs.File.{entryOn};
-ghost use Rattle.places.specs.Place.{entryBad, badEntry, badRecord};
-
-// The place of the first test that holds, and their number where none does.
-pub(crate) fn first_held(tests: &[bool]) -> u64
-    ensures { λ r. ⌜ r ≡ firstHeld (now (tests .entry)) ⌝ }
-{
-    let mut i = 0;
-    while i < tests.len() {
-        if tests[i] {
-            return i as u64;
-        }
-        i += 1;
-    }
-    i as u64
-}
+ghost use Rattle.places.specs.Place.{entryBad, badEntry, tooShort, recordBad, badRecord};
 
 // Row 6, of entry j of curve k.
 fn entry_bad(file: &[u8], k: u32, j: u32) -> bool
@@ -44,13 +30,36 @@ pub(crate) fn bad_entry(file: &[u8]) -> u32
     m
 }
 
+// Row 8, of record i.
+fn too_short(file: &[u8], i: u32) -> bool
+    requires { ⌜ i ≤ 40 ⌝ }
+    ensures { λ r. ⌜ r ≡ tooShort (now (file .entry)) i ⌝ }
+{
+    let at = rules::record_start(file, i) as u32;
+    let metres = network::byte_of(file, at) * 256 + network::byte_of(file, at + 1);
+    let k = network::byte_of(file, at + 3) as u32;
+    let step = network::byte_of(file, 5);
+    3600 * metres < network::entry_of(file, k, 0) * step
+}
+
+// Rows 7 and 8, of record i.
+fn record_bad(file: &[u8], i: u32) -> bool
+    requires { ⌜ i ≤ 40 ⌝ }
+    ensures { λ r. ⌜ r ≡ recordBad (now (file .entry)) i ⌝ }
+{
+    if rules::record_rule(file, i) < 15 {
+        return true;
+    }
+    too_short(file, i)
+}
+
 // The first record that rows 7 and 8 refuse, and 40 where they refuse none.
 pub(crate) fn bad_record(file: &[u8]) -> u32
     ensures { λ r. ⌜ (r ≡ badRecord (now (file .entry))) × (r ≤ 40) ⌝ }
 {
     let mut i = 0;
     while i < 40 {
-        if 0 < network::record_number(file, i) {
+        if record_bad(file, i) {
             return i;
         }
         i += 1;

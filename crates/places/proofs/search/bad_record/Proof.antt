@@ -1,17 +1,15 @@
 -- A search of the records that are left finds the same.
 use Prim.Native.Nat.{_-_}
+use mathlib.Core.Path.{sym, _∙_}
 use native.Mathlib.Omega.{arith}
-use lib.Dec.{ltb}
 use borrow.Author.Needs.{needs}
-use borrow.Author.Tests.{lt-ltb, le-ltb}
 use Rattle.laws.proofs.Search.{Searching, search-begun, search-found, search-passed, search-end}
-use Rattle.network.specs.File.{recordCallNumber}
-use Rattle.places.specs.Place.{badRecord}
+use Rattle.places.specs.Place.{recordBad, badRecord}
 use Rattle.places.proofs.search.bad_record.Statement.{statement}
 use Rattle.places.proofs.search.bad_record.Tie as tie
 
 abbrev Inv-loop : tie.InvT-loop
-Inv-loop file i₀ i = Searching (λ j. ltb 0 (recordCallNumber file j)) 40 i
+Inv-loop file i₀ i = Searching (recordBad file) 40 i
 
 abbrev μ-loop : tie.MeasureT-loop
 μ-loop file i₀ i = 40 - i
@@ -21,12 +19,12 @@ unfolding badRecord
 returns c =
     let l = c .before .before .before .loop in
     let more = c .before .before .loop-test .taken in
-    (search-found _ (l .inv) more (lt-ltb _ _ (rw (c .before .record-number .ensures) at (c .if1 .taken))), omega (arith, more))
+    (search-found _ (l .inv) more (sym (c .before .record-bad .ensures) ∙ c .if1 .taken), omega (arith, more))
 
 loop-again : tie.Need-loop-again Inv-loop μ-loop
 loop-again c =
     let l = c .before .before .before .loop in
-    search-passed _ (l .inv) (c .before .before .loop-test .taken) (le-ltb _ _ (rw (c .before .record-number .ensures) at (c .if1 .left)))
+    search-passed _ (l .inv) (c .before .before .loop-test .taken) (sym (c .before .record-bad .ensures) ∙ c .if1 .left)
 
 returns-2 : tie.Need-returns-2 Inv-loop μ-loop
 unfolding badRecord

@@ -32,7 +32,7 @@ returns c =
     let seg = top .before .before in
     let b = seg .before .before .before .before .before .args .file .now in
     let same : (top .entry-of .result ≡ entryOn b (segmentOn b (seg .before .before .before .before .before .args .i) .curve) 0) =
-    top .entry-of .ensures ∙ ap (λ (x : Segment). entryOn b (x .curve) 0) (seg .segment-of .ensures) in
+    top .entry-of .ensures .0 ∙ ap (λ (x : Segment). entryOn b (x .curve) 0) (seg .segment-of .ensures) in
     c .value-number .ensures
     ∙ (λ j. startSegmentNumber (seg .segment-of .ensures j) (same j) (c .before .before .before .entry .ensures j) (c .before .before .entry2 .ensures j) (c .before .entry3 .ensures j))
 

@@ -4,8 +4,8 @@ use mathlib.Core.Bool.{false}
 use lib.ListN.{length, getD}
 use borrow.Author.Needs.{needs}
 use Rattle.laws.proofs.Search.{Searching, search-begun, search-found, search-passed, search-end}
-use Rattle.places.proofs.search.first_held.Statement.{statement}
-use Rattle.places.proofs.search.first_held.Tie as tie
+use Rattle.places.proofs.rules.first_held.Statement.{statement}
+use Rattle.places.proofs.rules.first_held.Tie as tie
 
 abbrev Inv-loop : tie.InvT-loop
 Inv-loop tests i₀ i = Searching (λ j. getD tests j false) (length tests) i

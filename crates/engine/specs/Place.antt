@@ -4,9 +4,9 @@ use mathlib.Core.List.{List, [], _∷_}
 use lib.Dec.{ltb}
 use lib.ListN.{length, set}
 use Rattle.laws.specs.First.{row, first, ifAccepted}
-use Rattle.network.specs.File.{curveStart}
-use Rattle.network.specs.Curve.{curveCallNumber}
-use Rattle.places.specs.Place.{placeOf}
+use Rattle.format.specs.File.{curveStart}
+use Rattle.format.specs.Curve.{curveCallNumber}
+use Rattle.format.specs.Place.{placeOf}
 
 -- the number of the curve call, then 24 where two words are not lent
 unfoldable pub placeNumber : List ℕ → ℕ → List ℕ → ℕ

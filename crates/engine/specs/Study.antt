@@ -7,9 +7,9 @@ use lib.Dec.{ltb}
 use lib.ListN.{length, drop}
 use lib.Ieee.{Float}
 use Rattle.laws.specs.First.{row, first, ifAccepted}
-use Rattle.study.specs.Calls.{Call, Answer, refused, accepted, figures}
-use Rattle.study.specs.Perform.{lent, perform}
-use Rattle.study.specs.Sound.{sound}
+use Rattle.book.specs.Calls.{Call, Answer, refused, accepted, figures}
+use Rattle.book.specs.Perform.{lent, perform}
+use Rattle.book.specs.Sound.{sound}
 
 -- 12 where the study is not sound, or 0
 abbrev pub soundness : List ℕ → List Float → ℕ

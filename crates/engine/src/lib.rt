@@ -2,13 +2,11 @@
 mod report; // report.rt: figures put into lent words
 
 ghost use mathlib.Core.Path.{_≡_};
-ghost use Rattle.network.specs.File.{fileNumber};
-ghost use Rattle.network.specs.Curve.{curveCallNumber};
-ghost use Rattle.network.specs.Words.{writeNumber, writeBytes};
-ghost use Rattle.model.specs.Sound.{singleNumber, singleWords, singleSpeeds};
-ghost use Rattle.study.specs.declared.Setting.the-variants.{Open, Fixed, Alinea};
-ghost use Rattle.study.specs.Calls.{start, sign, meter, step, hold, recall, dropSlot, report, reportSegment, reportRuns, verdictSays};
-ghost use Rattle.study.specs.Write.{writtenBytes, writeAnswer};
+ghost use Rattle.format.specs.File.{fileNumber};
+ghost use Rattle.format.specs.Curve.{curveCallNumber};
+ghost use Rattle.metanet.specs.declared.Setting.the-variants.{Open, Fixed, Alinea};
+ghost use Rattle.book.specs.Calls.{start, sign, meter, step, hold, recall, dropSlot, report, reportSegment, reportRuns, verdictSays};
+ghost use Rattle.book.specs.Write.{writtenBytes, writeAnswer};
 ghost use Rattle.engine.specs.Place.{placeNumber, placeWords, placeFigures};
 ghost use Rattle.engine.specs.Study.{soundness, numberOf, putNumber, putFigures, Called, Reported};
 
@@ -59,35 +57,15 @@ pub extern "C" fn network_place(file: &[u8], place: &mut [u64]) -> u64
     report::put_figures(&four, place)
 }
 
-// Writes the network kept in these words as a file from the buffer's first byte on; later bytes stay. Gives the number that refuses
-// the words, 24 where the buffer is too short, and 0; a refused call leaves the buffer as it came.
-#[no_mangle]
-pub extern "C" fn network_write(kept: &[u64], out: &mut [u8]) -> u64
-    ensures { λ r. ⌜ r ≡ writeNumber (now (kept .entry)) (now (out .entry)) ⌝ }
-    ensures { λ _. ⌜ now (out .exit) ≡ writeBytes (now (kept .entry)) (now (out .entry)) ⌝ }
-{
-    network::write(kept, out)
-}
-
-// One step of a network and one case that stand alone in the arrays: 12, 13, 15 or 16, with both arrays as they came, or 0.
-#[no_mangle]
-pub extern "C" fn case_step(words: &mut [u64], speeds: &mut [f64], arrivals: &[u32]) -> u64
-    ensures { λ r. ⌜ r ≡ singleNumber (now (words .entry)) (now (speeds .entry)) (now (arrivals .entry)) ⌝ }
-    ensures { λ _. ⌜ now (words .exit) ≡ singleWords (now (words .entry)) (now (speeds .entry)) (now (arrivals .entry)) ⌝ }
-    ensures { λ _. ⌜ now (speeds .exit) ≡ singleSpeeds (now (words .entry)) (now (speeds .entry)) (now (arrivals .entry)) ⌝ }
-{
-    model::single_step(words, speeds, arrivals)
-}
-
 // ---- a study; docs/ARRANGEMENT.md says where it stands in the two arrays
 
 // The number that a verdict says, or 0.
-fn number_of(verdict: study::Verdict) -> u64
+fn number_of(verdict: book::Verdict) -> u64
     ensures { λ r. ⌜ r ≡ numberOf (verdictSays verdict) ⌝ }
 {
     match verdict {
-        study::Verdict::Refused(number) => number,
-        study::Verdict::Accepted => 0,
+        book::Verdict::Refused(number) => number,
+        book::Verdict::Accepted => 0,
     }
 }
 
@@ -136,7 +114,7 @@ pub extern "C" fn study_sign(
 pub extern "C" fn study_meter_open(words: &mut [u64], speeds: &[f64], segment: u64) -> u64
     ensures { λ r. ⌜ Called (meter segment Open) (now (words .entry)) (now (speeds .entry)) r (now (words .exit)) (now (speeds .entry)) ⌝ }
 {
-    number_of(study::meter(words, speeds, segment, study::Setting::Open))
+    number_of(study::meter(words, speeds, segment, metanet::Setting::Open))
 }
 
 #[no_mangle]
@@ -148,7 +126,7 @@ pub extern "C" fn study_meter_fixed(
 ) -> u64
     ensures { λ r. ⌜ Called (meter segment (Fixed rate)) (now (words .entry)) (now (speeds .entry)) r (now (words .exit)) (now (speeds .entry)) ⌝ }
 {
-    number_of(study::meter(words, speeds, segment, study::Setting::Fixed(rate)))
+    number_of(study::meter(words, speeds, segment, metanet::Setting::Fixed(rate)))
 }
 
 #[no_mangle]
@@ -163,7 +141,7 @@ pub extern "C" fn study_meter_alinea(
 ) -> u64
     ensures { λ r. ⌜ Called (meter segment (Alinea target gain least interval)) (now (words .entry)) (now (speeds .entry)) r (now (words .exit)) (now (speeds .entry)) ⌝ }
 {
-    let setting = study::Setting::Alinea {
+    let setting = metanet::Setting::Alinea {
         target,
         gain,
         least,
@@ -241,7 +219,7 @@ pub extern "C" fn study_write(words: &[u64], speeds: &[f64], out: &mut [u8]) -> 
     ensures { λ _. ⌜ now (out .exit) ≡ writtenBytes (now (words .entry)) (now (speeds .entry)) (now (out .entry)) ⌝ }
 {
     match study::write(words, speeds, out) {
-        study::Written::Refused(number) => number,
-        study::Written::Bytes(_) => 0,
+        book::Written::Refused(number) => number,
+        book::Written::Bytes(_) => 0,
     }
 }

@@ -1,6 +1,6 @@
 // Figures put into lent words.
 ghost use mathlib.Core.Path.{_≡_};
-ghost use Rattle.study.specs.Calls.{caseSays, segmentSays, runSays};
+ghost use Rattle.book.specs.Calls.{caseSays, segmentSays, runSays};
 ghost use Rattle.engine.specs.Study.{putNumber, putFigures, reportNumber, reportWords};
 
 // 24 where out is shorter than the figures, with out as it came, or 0.
@@ -15,26 +15,26 @@ pub(crate) fn put_figures(figures: &[u64], out: &mut [u64]) -> u64
     0
 }
 
-pub(crate) fn put_case(report: study::CaseReport, out: &mut [u64]) -> u64
+pub(crate) fn put_case(report: book::CaseReport, out: &mut [u64]) -> u64
     ensures { λ r. ⌜ r ≡ reportNumber (caseSays report) (now (out .entry)) ⌝ }
     ensures { λ _. ⌜ now (out .exit) ≡ reportWords (caseSays report) (now (out .entry)) ⌝ }
 {
     match report {
-        study::CaseReport::Refused(number) => number,
-        study::CaseReport::Figures(f) => {
+        book::CaseReport::Refused(number) => number,
+        book::CaseReport::Figures(f) => {
             let six = [f.steps, f.segments, f.queues, f.arrivals, f.exits, f.time];
             put_figures(&six, out)
         }
     }
 }
 
-pub(crate) fn put_segment(report: study::SegmentReport, out: &mut [u64]) -> u64
+pub(crate) fn put_segment(report: book::SegmentReport, out: &mut [u64]) -> u64
     ensures { λ r. ⌜ r ≡ reportNumber (segmentSays report) (now (out .entry)) ⌝ }
     ensures { λ _. ⌜ now (out .exit) ≡ reportWords (segmentSays report) (now (out .entry)) ⌝ }
 {
     match report {
-        study::SegmentReport::Refused(number) => number,
-        study::SegmentReport::Figures(f) => {
+        book::SegmentReport::Refused(number) => number,
+        book::SegmentReport::Figures(f) => {
             let seven = [
                 f.count,
                 f.whole,
@@ -49,13 +49,13 @@ pub(crate) fn put_segment(report: study::SegmentReport, out: &mut [u64]) -> u64
     }
 }
 
-pub(crate) fn put_runs(report: study::RunReport, out: &mut [u64]) -> u64
+pub(crate) fn put_runs(report: book::RunReport, out: &mut [u64]) -> u64
     ensures { λ r. ⌜ r ≡ reportNumber (runSays report) (now (out .entry)) ⌝ }
     ensures { λ _. ⌜ now (out .exit) ≡ reportWords (runSays report) (now (out .entry)) ⌝ }
 {
     match report {
-        study::RunReport::Refused(number) => number,
-        study::RunReport::Count(runs) => {
+        book::RunReport::Refused(number) => number,
+        book::RunReport::Count(runs) => {
             let one = [runs];
             put_figures(&one, out)
         }

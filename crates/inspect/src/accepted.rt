@@ -2,7 +2,7 @@
 use crate::print;
 use crate::record;
 
-fn head(h: network::Head) {
+fn head(h: format::Head) {
     print::told(b"accepted: T ", h.step, b" s");
     print::told(b", n ", h.size, b"");
     print::told(b", curves ", h.curves, b"");
@@ -12,7 +12,7 @@ fn head(h: network::Head) {
     print::told(b", delta ", h.delta, b" thousandths\n");
 }
 
-fn ramps(s: network::Segment) {
+fn ramps(s: format::Segment) {
     if s.origin == 1 {
         print::told(b", origin of at most ", s.most, b" mv a step");
     }

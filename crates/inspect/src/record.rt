@@ -15,7 +15,7 @@ fn name(rule: u64) {
     }
 }
 
-fn right(h: network::Head, s: network::Segment, rule: u64) {
+fn right(h: format::Head, s: format::Segment, rule: u64) {
     match rule {
         0 => print::say(b"100 to 2000"),
         1 => print::say(b"1 to 8"),
@@ -33,7 +33,7 @@ fn right(h: network::Head, s: network::Segment, rule: u64) {
     }
 }
 
-fn value(s: network::Segment, byte: u64, rule: u64) -> u64 {
+fn value(s: format::Segment, byte: u64, rule: u64) -> u64 {
     match rule {
         0 => s.metres,
         1 => s.lanes,

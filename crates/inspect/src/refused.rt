@@ -73,7 +73,7 @@ fn speed(file: &[u8], i: u32) {
     }
 }
 
-fn what(file: &[u8], p: places::Place) {
+fn what(file: &[u8], p: format::Place) {
     let number = p.number;
     match number {
         1 => print::told(
@@ -91,7 +91,7 @@ fn what(file: &[u8], p: places::Place) {
     }
 }
 
-pub(crate) fn tell(file: &[u8], p: places::Place) {
+pub(crate) fn tell(file: &[u8], p: format::Place) {
     print::told(b"refused by ", p.number, b"");
     print::told(b" at byte ", p.offset, b": ");
     what(file, p);

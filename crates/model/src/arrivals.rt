@@ -3,8 +3,8 @@ ghost use mathlib.Core.Path.{_≡_};
 ghost use Prim.Native.Nat.{_<_, _≤_};
 ghost use lib.ListN.{length};
 ghost use Rattle.laws.specs.First.{firstOf};
-ghost use Rattle.network.specs.Words.{headIn};
-ghost use Rattle.model.specs.Sound.{arrivalNumberIn, stepNumberIn};
+ghost use Rattle.format.specs.Words.{headIn};
+ghost use Rattle.metanet.specs.Sound.{arrivalNumberIn, stepNumberIn};
 
 // 15, of the arrivals at segment i.
 fn arrival_number(net: &[u64], arrivals: &[u32], i: usize) -> u64

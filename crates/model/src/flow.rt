@@ -1,7 +1,7 @@
 // Rates, releases and flows of one segment, in mv.
 ghost use mathlib.Core.Path.{_≡_};
 ghost use Prim.Native.Nat.{_<_, _≤_, min, max};
-ghost use Rattle.model.specs.Flow.{jamBound, alineaRate, releaseOf, outflowOf, exitPart};
+ghost use Rattle.metanet.specs.Flow.{jamBound, alineaRate, releaseOf, outflowOf, exitPart};
 
 // The most that a segment with n mv lets in from its origin: 0 from the jam density on.
 pub(crate) fn jam_bound(most: u64, jam: u64, critical: u64, g: u64, n: u64) -> u64

@@ -1,10 +1,10 @@
 // All segments of a case, in place and in driving order: what segment i + 1 needs of segment i's old state is carried along.
-use crate::Row;
+use metanet::Row;
 use crate::segment;
 ghost use mathlib.Core.Path.{_≡_};
 ghost use lib.ListN.{length};
-ghost use Rattle.model.specs.Words.{rowWords};
-ghost use Rattle.model.specs.Ready.{Ready, Stepped};
+ghost use Rattle.metanet.specs.Words.{rowWords};
+ghost use Rattle.metanet.proofs.Ready.{Ready, Stepped};
 
 // Stores the figures that a step makes.
 fn store(w: &mut [u64], r: Row)

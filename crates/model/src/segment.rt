@@ -1,25 +1,25 @@
 // One segment of a step.
-use crate::Around;
-use crate::Old;
-use crate::Row;
-use crate::Sign;
+use metanet::Around;
+use metanet::Old;
+use metanet::Row;
+use metanet::Sign;
 use crate::flow;
 use crate::speed;
-use network::Head;
-use network::Segment;
+use format::Head;
+use format::Segment;
 ghost use mathlib.Core.Path.{_≡_};
 ghost use mathlib.Core.Bool.{_&&_};
 ghost use Prim.Native.Nat.{_+_, _-_, _*_, _<_, _≤_};
 ghost use lib.Dec.{eqb, ltb};
 ghost use lib.ListN.{length, getD, drop};
 ghost use Rattle.laws.specs.Real.{real, _⊘_};
-ghost use Rattle.network.specs.Accepted.{HeadWithin, CurveWithin};
-ghost use Rattle.network.specs.Words.{entryIn, segmentIn};
-ghost use Rattle.model.specs.Flow.{exitPart};
-ghost use Rattle.model.specs.Speed.{area};
-ghost use Rattle.model.specs.Step.{signOf, desiredSpeed, rateNow, outflowNow, made};
-ghost use Rattle.model.specs.Words.{netOf, rowIn};
-ghost use Rattle.model.specs.Ready.{AreaOk, SegmentOk, RowOk, FreshOk, afterIn, freshIn};
+ghost use Rattle.format.proofs.Accepted.{HeadWithin, CurveWithin};
+ghost use Rattle.format.specs.Words.{entryIn, segmentIn};
+ghost use Rattle.metanet.specs.Flow.{exitPart};
+ghost use Rattle.metanet.specs.Speed.{area};
+ghost use Rattle.metanet.specs.Step.{signOf, desiredSpeed, rateNow, outflowNow, made};
+ghost use Rattle.metanet.specs.Words.{netOf, rowIn};
+ghost use Rattle.metanet.proofs.Ready.{AreaOk, SegmentOk, RowOk, FreshOk, afterIn, freshIn};
 
 fn sign_of(r: Row) -> Sign
     requires { ⌜ (r .limit ≤ 200) × (r .compliance ≤ 1000) ⌝ }

@@ -1,14 +1,14 @@
 // Whether a case is sound.
-use crate::Row;
+use metanet::Row;
 use crate::segment;
 use crate::speed;
 use crate::totals;
-use network::Segment;
+use format::Segment;
 ghost use mathlib.Core.Path.{_≡_};
 ghost use Prim.Native.Nat.{_<_, _≤_};
 ghost use Rattle.laws.specs.First.{firstOf};
-ghost use Rattle.model.specs.Ready.{CaseAt};
-ghost use Rattle.model.specs.Sound.{signBad, hasAlinea, openBad, fixedBad, alineaBad, settingBad, speedBad, rowBad, totalsBad, rowNumberIn, caseNumberIn};
+ghost use Rattle.metanet.proofs.Ready.{CaseAt};
+ghost use Rattle.metanet.specs.Sound.{signBad, hasAlinea, openBad, fixedBad, alineaBad, settingBad, speedBad, rowBad, totalsBad, rowNumberIn, caseNumberIn};
 
 fn sign_bad(r: Row) -> bool
     ensures { λ x. ⌜ x ≡ signBad r ⌝ }

@@ -1,14 +1,14 @@
 // The new speed of one segment: the bracketed binary64 expressions of document 01.
-use crate::Old;
-use crate::Sign;
-use network::Head;
-use network::Segment;
+use metanet::Old;
+use metanet::Sign;
+use format::Head;
+use format::Segment;
 ghost use mathlib.Core.Path.{_≡_};
 ghost use Prim.Native.Nat.{_<_, _≤_};
 ghost use Rattle.laws.specs.Real.{real};
-ghost use Rattle.network.specs.Words.{entryIn};
-ghost use Rattle.network.specs.Accepted.{HeadWithin, CurveWithin};
-ghost use Rattle.model.specs.Speed.{relaxation, convection, anticipation, merging, keep, newSpeed, curveSpeed, signed};
+ghost use Rattle.format.specs.Words.{entryIn};
+ghost use Rattle.format.proofs.Accepted.{HeadWithin, CurveWithin};
+ghost use Rattle.metanet.specs.Speed.{relaxation, convection, anticipation, merging, keep, newSpeed, curveSpeed, signed};
 
 // A whole number made binary64. Up to 2^53 a signed number serves, which the machine converts in one step.
 pub(crate) fn whole(n: u64) -> f64

@@ -3,8 +3,8 @@ ghost use mathlib.Core.Path.{_≡_};
 ghost use Prim.Native.Nat.{ℕ, _+_, _*_, _<_, _≤_};
 ghost use lib.ListN.{length, getD};
 ghost use Rattle.laws.specs.Sums.{sumOf};
-ghost use Rattle.model.specs.Words.{totalsWords};
-ghost use Rattle.model.specs.Ready.{TotalsOk, vehiclesAt};
+ghost use Rattle.metanet.specs.Words.{totalsWords};
+ghost use Rattle.metanet.proofs.Ready.{TotalsOk, vehiclesAt};
 
 // The arrivals of a step, summed.
 pub(crate) fn sum_arrivals(arrivals: &[u32], n: usize) -> u64

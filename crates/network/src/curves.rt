@@ -4,8 +4,8 @@ ghost use mathlib.Core.Path.{_≡_};
 ghost use Prim.Native.Nat.{_+_, _*_, _<_, _≤_};
 ghost use lib.ListN.{length};
 ghost use Rattle.laws.specs.First.{firstOf};
-ghost use Rattle.network.specs.Network.{rising, curveNumber};
-ghost use Rattle.network.specs.File.{curveStart, curveIn, entryAt};
+ghost use Rattle.format.specs.Network.{rising, curveNumber};
+ghost use Rattle.format.specs.File.{curveStart, curveIn, entryAt};
 
 // Entry j of the curve at place at.
 pub(crate) fn entry(file: &[u8], at: usize, j: usize) -> u64

@@ -1,11 +1,11 @@
 // The head, 16 bytes: rows 1 to 5.
-use crate::Head;
+use format::Head;
 use crate::number;
 ghost use mathlib.Core.Path.{_≡_};
 ghost use Prim.Native.Nat.{_≤_};
 ghost use lib.ListN.{length};
-ghost use Rattle.network.specs.Network.{headBad};
-ghost use Rattle.network.specs.File.{hasMark, headOf, headPadding, headNumber};
+ghost use Rattle.format.specs.Network.{headBad};
+ghost use Rattle.format.specs.File.{hasMark, headOf, headPadding, headNumber};
 
 // Row 4, of the fields.
 pub(crate) fn head_bad(h: Head) -> bool

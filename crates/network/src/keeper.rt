@@ -1,6 +1,6 @@
 // The network of a file, kept in words. Places are those of docs/ARRANGEMENT.md; words that are free are 0.
-use crate::Head;
-use crate::Segment;
+use format::Head;
+use format::Segment;
 use crate::number;
 use crate::records;
 ghost use mathlib.Core.Path.{_≡_};
@@ -9,8 +9,8 @@ ghost use mathlib.Core.List.{_++_};
 ghost use lib.ListN.{length, take, drop, replicate};
 ghost use Rattle.laws.specs.Lists.{table, puts};
 ghost use Rattle.laws.specs.BigEndian.{u32At};
-ghost use Rattle.network.specs.File.{headOf, segmentAt, networkOf};
-ghost use Rattle.network.specs.Words.{headWords, segmentWords, keptWords};
+ghost use Rattle.format.specs.File.{headOf, segmentAt, networkOf};
+ghost use Rattle.format.specs.Words.{headWords, segmentWords, keptWords};
 
 fn head_words(h: Head) -> [u64; 16]
     ensures { λ r. ⌜ r ≡ headWords h ⌝ }

@@ -7,40 +7,17 @@ mod words; // words.rt: a network kept in words, rows 4, 6, 7 and 8
 mod keeper; // keeper.rt: a file's network into words
 mod writer; // writer.rt: a kept network as bytes
 
+use format::Head;
+use format::Segment;
 ghost use mathlib.Core.Path.{_≡_};
 ghost use Prim.Native.Nat.{_<_};
 ghost use Rattle.laws.specs.BigEndian.{byteAt};
-ghost use Rattle.network.specs.File.{headOf, entryOn, segmentOn, fileNumber};
-ghost use Rattle.network.specs.Curve.{curveCallNumber, curveBytes};
-ghost use Rattle.network.specs.Words.{headIn, entryIn, segmentIn, keptNumber, writeNumber, writeBytes, keepNumber, keepWords};
+ghost use Rattle.format.specs.File.{headOf, entryOn, segmentOn, fileNumber};
+ghost use Rattle.format.specs.Curve.{curveCallNumber, curveBytes};
+ghost use Rattle.format.specs.Words.{headIn, entryIn, segmentIn, keptNumber, writeNumber, writeBytes, keepNumber, keepWords};
 
 // The words of a kept network.
 pub const NETWORK_WORDS: usize = 2560;
-
-// The numbers of the head: the step T in seconds, the number of segments n, the number of curves c, then τ in seconds, ν in km²/h,
-// κ in veh/km/lane and δ in thousandths.
-pub struct Head {
-    pub step: u64,
-    pub size: u64,
-    pub curves: u64,
-    pub tau: u64,
-    pub nu: u64,
-    pub kappa: u64,
-    pub delta: u64,
-}
-
-// The numbers of a segment: its length L in metres, lanes H, the number of its curve, critical and jam density C and J in
-// veh/km/lane, whether it has an origin, the exit share X in thousandths, and the most mv that its origin releases in a step, Q.
-pub struct Segment {
-    pub metres: u64,
-    pub lanes: u64,
-    pub curve: u64,
-    pub critical: u64,
-    pub jam: u64,
-    pub origin: u64,
-    pub exit: u64,
-    pub most: u64,
-}
 
 // The number that refuses the file, and 0 where it is accepted.
 pub fn check(file: &[u8]) -> u64

@@ -1,6 +1,6 @@
 // A segment's record, 16 bytes: rows 7 and 8.
-use crate::Head;
-use crate::Segment;
+use format::Head;
+use format::Segment;
 use crate::curves;
 use crate::number;
 ghost use mathlib.Core.Path.{_≡_};
@@ -8,9 +8,9 @@ ghost use Prim.Native.Nat.{_+_, _<_, _≤_};
 ghost use mathlib.Core.Bool.{_&&_, _||_};
 ghost use lib.Dec.{eqb, ltb};
 ghost use Rattle.laws.specs.First.{firstOf, outside};
-ghost use Rattle.network.specs.Network.{segmentBad, tooFast};
-ghost use Rattle.network.specs.File.{segmentAt, recordPadding, recordNumber};
-ghost use Rattle.network.specs.Accepted.{Sized};
+ghost use Rattle.format.specs.Network.{segmentBad, tooFast};
+ghost use Rattle.format.specs.File.{segmentAt, recordPadding, recordNumber};
+ghost use Rattle.format.proofs.Accepted.{Sized};
 
 fn read_fields(file: &[u8], at: usize) -> Segment
     requires { ⌜ at < 100000000000 ⌝ }

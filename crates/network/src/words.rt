@@ -1,6 +1,6 @@
 // A network kept in words, a word a number: rows 4, 6, 7 and 8. Places are those of docs/ARRANGEMENT.md.
-use crate::Head;
-use crate::Segment;
+use format::Head;
+use format::Segment;
 use crate::heads;
 use crate::number;
 use crate::records;
@@ -8,9 +8,9 @@ ghost use mathlib.Core.Path.{_≡_};
 ghost use Prim.Native.Nat.{_+_, _<_, _≤_};
 ghost use lib.ListN.{length};
 ghost use Rattle.laws.specs.First.{firstOf};
-ghost use Rattle.network.specs.Network.{rising, curveNumber, segmentNumber, rowsNumber};
-ghost use Rattle.network.specs.Words.{headIn, entryIn, segmentIn};
-ghost use Rattle.network.specs.Accepted.{CurvesKept};
+ghost use Rattle.format.specs.Network.{rising, curveNumber, segmentNumber, rowsNumber};
+ghost use Rattle.format.specs.Words.{headIn, entryIn, segmentIn};
+ghost use Rattle.format.proofs.Accepted.{CurvesKept};
 
 pub(crate) fn head_in(kept: &[u64]) -> Head
     ensures { λ r. ⌜ r ≡ headIn (now (kept .entry)) ⌝ }

@@ -1,6 +1,6 @@
 // A kept network as the bytes of its file.
-use crate::Head;
-use crate::Segment;
+use format::Head;
+use format::Segment;
 use crate::number;
 use crate::words;
 ghost use mathlib.Core.Path.{_≡_};
@@ -9,10 +9,10 @@ ghost use mathlib.Core.List.{_++_};
 ghost use lib.ListN.{length, getD, drop};
 ghost use Rattle.laws.specs.Lists.{puts};
 ghost use Rattle.laws.specs.BigEndian.{u32Bytes};
-ghost use Rattle.network.specs.Written.{headBytes, segmentBytes, fileOf};
-ghost use Rattle.network.specs.Words.{headIn, segmentIn, networkIn};
-ghost use Rattle.network.specs.File.{fileSize};
-ghost use Rattle.network.specs.Accepted.{Kept};
+ghost use Rattle.format.specs.Written.{headBytes, segmentBytes, fileOf};
+ghost use Rattle.format.specs.Words.{headIn, segmentIn, networkIn};
+ghost use Rattle.format.specs.File.{fileSize};
+ghost use Rattle.format.proofs.Accepted.{Kept};
 
 fn head_bytes(h: Head) -> [u8; 16]
     ensures { λ r. ⌜ r ≡ headBytes h ⌝ }

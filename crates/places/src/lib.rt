@@ -3,17 +3,9 @@ mod rules; // rules.rt: the rules of rows 2, 4 and 7, one by one, and the first 
 mod search; // search.rt: the first entry and the first record that are refused
 mod offsets; // offsets.rt: part, rule and byte, by the number that refuses
 
+use format::Place;
 ghost use mathlib.Core.Path.{_≡_};
-ghost use Rattle.places.specs.Place.{placeOf};
-
-// The number that refuses the file, or 0; the curve (6) or the record (7, 8); the rule of the row that is broken (4, 7) or the entry
-// (6); each counted from 0; and the byte offset.
-pub struct Place {
-    pub number: u64,
-    pub part: u32,
-    pub rule: u64,
-    pub offset: u64,
-}
+ghost use Rattle.format.specs.Place.{placeOf};
 
 // The place at which a file of any content is refused; zeros where it is accepted.
 pub fn place_of(file: &[u8]) -> Place

@@ -3,8 +3,8 @@ use crate::rules;
 use crate::search;
 ghost use mathlib.Core.Path.{_≡_};
 ghost use Prim.Native.Nat.{_≤_};
-ghost use Rattle.network.specs.File.{headOf, fileSize};
-ghost use Rattle.places.specs.Place.{partOf, ruleOf, headOffset, offsetOf};
+ghost use Rattle.format.specs.File.{headOf, fileSize};
+ghost use Rattle.format.specs.Place.{partOf, ruleOf, headOffset, offsetOf};
 
 // The curve (6) or the record (7, 8).
 pub(crate) fn part(file: &[u8], number: u64) -> u32

@@ -5,9 +5,9 @@ ghost use mathlib.Core.List.{[], _∷_, _++_};
 ghost use lib.Dec.{ltb};
 ghost use lib.ListN.{getD};
 ghost use Rattle.laws.specs.Search.{firstHeld};
-ghost use Rattle.network.specs.Network.{headTests, segmentTests};
-ghost use Rattle.network.specs.File.{headOf, recordStart};
-ghost use Rattle.places.specs.Place.{markRules, headRules, headFields, recordRules, recordFields};
+ghost use Rattle.format.specs.Network.{headTests, segmentTests};
+ghost use Rattle.format.specs.File.{headOf, recordStart};
+ghost use Rattle.format.specs.Place.{markRules, headRules, headFields, recordRules, recordFields};
 
 // The place of the first test that holds, and their number where none does.
 pub(crate) fn first_held(tests: &[bool]) -> u64
@@ -36,7 +36,7 @@ pub(crate) fn mark_rule(file: &[u8]) -> u64
 }
 
 // Whether each rule of the head is broken, with the bytes 11, 14 and 15.
-fn head_rules(h: network::Head, z11: u64, z14: u64, z15: u64) -> [bool; 10]
+fn head_rules(h: format::Head, z11: u64, z14: u64, z15: u64) -> [bool; 10]
     ensures { λ r. ⌜ r ≡ headTests h ++ (ltb 0 z11 ∷ ltb 0 z14 ∷ ltb 0 z15 ∷ []) ⌝ }
 {
     [
@@ -86,9 +86,9 @@ pub(crate) fn record_start(file: &[u8], i: u32) -> u64
 
 // Whether each rule of record i is broken, with its bytes 7, 14 and 15.
 fn record_rules(
-    h: network::Head,
+    h: format::Head,
     i: u64,
-    s: network::Segment,
+    s: format::Segment,
     z7: u64,
     z14: u64,
     z15: u64,

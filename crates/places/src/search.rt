@@ -2,8 +2,8 @@
 use crate::rules;
 ghost use mathlib.Core.Path.{_≡_};
 ghost use Prim.Native.Nat.{_≤_};
-ghost use Rattle.network.specs.File.{entryOn};
-ghost use Rattle.places.specs.Place.{entryBad, badEntry, tooShort, recordBad, badRecord};
+ghost use Rattle.format.specs.File.{entryOn};
+ghost use Rattle.format.specs.Place.{entryBad, badEntry, tooShort, recordBad, badRecord};
 
 // Row 6, of entry j of curve k.
 fn entry_bad(file: &[u8], k: u32, j: u32) -> bool

@@ -9,21 +9,21 @@ use Rattle.laws.specs.Lists.{table, part, putPart, parts, puts}
 use Rattle.laws.specs.Real.{real}
 use Rattle.laws.proofs.Lists.{getD-table, table-ext, parts-ext, length-parts, length-part}
 use Rattle.laws.proofs.Puts.{put-after, puts-after}
-use Rattle.network.specs.declared.Segment.{Segment}
-use Rattle.network.specs.Network.{networkFrom, segmentOf}
-use Rattle.network.specs.File.{headOf, networkOf, fileNumber}
-use Rattle.network.specs.Words.{keptWords, keepWords}
-use Rattle.network.proofs.File.{network-within}
-use Rattle.network.proofs.Kept.{length-kept}
-use Rattle.network.proofs.KeptFile.{keep-accepted}
-use Rattle.network.proofs.KeepCall.{keep-is}
-use Rattle.model.specs.declared.Row.{Row}
-use Rattle.model.specs.Case.{Case, noRow, rowOf}
-use Rattle.model.specs.Words.{codedRow, codedWords, codedSpeeds}
-use Rattle.study.specs.Arrangement.{caseWord}
-use Rattle.study.specs.Calls.{start}
-use Rattle.study.specs.Start.{startRow, startCase}
-use Rattle.study.specs.Perform.{lent, startWords, startSpeeds, storedWords, storedSpeeds}
+use Rattle.format.specs.declared.Segment.{Segment}
+use Rattle.format.specs.Network.{networkFrom, segmentOf}
+use Rattle.format.specs.File.{headOf, networkOf, fileNumber}
+use Rattle.format.specs.Words.{keptWords, keepWords}
+use Rattle.format.proofs.File.{network-within}
+use Rattle.format.proofs.Kept.{length-kept}
+use Rattle.format.proofs.KeptFile.{keep-accepted}
+use Rattle.format.proofs.KeepCall.{keep-is}
+use Rattle.metanet.specs.declared.Row.{Row}
+use Rattle.metanet.specs.Case.{Case, noRow, rowOf}
+use Rattle.metanet.specs.Words.{codedRow, codedWords, codedSpeeds}
+use Rattle.book.specs.Arrangement.{caseWord}
+use Rattle.book.specs.Calls.{start}
+use Rattle.metanet.specs.Start.{startRow, startCase}
+use Rattle.book.specs.Perform.{lent, startWords, startSpeeds, storedWords, storedSpeeds}
 use Rattle.study.specs.Ready.{openWords, openWordsOn, beginWords}
 use Rattle.study.proofs.Starting.{same-segment}
 

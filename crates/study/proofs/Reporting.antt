@@ -16,30 +16,31 @@ use Rattle.laws.proofs.First.{row-applies, row-skipped, row-passed, row-later, 
 use Rattle.laws.proofs.Reals.{Truncates}
 use Rattle.laws.proofs.Sums.{sum-ext}
 use Rattle.laws.proofs.Tests.{inside-low, inside-high}
-use Rattle.network.specs.declared.Head.{Head}
-use Rattle.network.specs.declared.Segment.{Segment}
-use Rattle.network.specs.Network.{segmentOf}
-use Rattle.network.specs.Words.{entryIn, segmentIn}
-use Rattle.model.specs.declared.Row.{Row}
-use Rattle.model.specs.Case.{rowOf}
-use Rattle.model.specs.Words.{netOf, rowIn, rowAt, rowsIn, caseIn}
-use Rattle.model.specs.Ready.{RowOk, CaseAt}
-use Rattle.model.specs.Sound.{caseNumberIn}
-use Rattle.model.proofs.SegmentLaws.{segment-ok, truncating-speed}
-use Rattle.model.proofs.SoundLaws.{row-read, case-row}
-use Rattle.study.specs.declared.CaseReport.the-variants as caseReport
-use Rattle.study.specs.declared.SegmentReport.the-variants as segmentReport
-use Rattle.study.specs.Arrangement.{caseWord, caseSpeed, networkAt, sizeAt, markAt, filledAt, caseAt}
-use Rattle.study.specs.Sound.{sound}
-use Rattle.study.specs.Ready.{Laid}
-use Rattle.study.specs.Calls.{report, reportSegment, Answer, figures, caseSays, segmentSays}
-use Rattle.study.specs.Refusal.{askedNumber, refusal}
-use Rattle.study.specs.Perform.{Arrays, lent, refusalAt, caseFigures, segmentFigures}
+use Rattle.format.specs.declared.Head.{Head}
+use Rattle.format.specs.declared.Segment.{Segment}
+use Rattle.format.specs.Network.{segmentOf}
+use Rattle.format.specs.Words.{entryIn, segmentIn}
+use Rattle.metanet.specs.declared.Row.{Row}
+use Rattle.metanet.specs.Case.{rowOf}
+use Rattle.metanet.specs.Words.{netOf, rowIn, rowAt, rowsIn, caseIn}
+use Rattle.metanet.proofs.Ready.{RowOk, CaseAt}
+use Rattle.metanet.specs.Sound.{caseNumberIn}
+use Rattle.metanet.proofs.SegmentLaws.{segment-ok, truncating-speed}
+use Rattle.metanet.proofs.SoundLaws.{row-read, case-row}
+use Rattle.book.specs.declared.CaseReport.the-variants as caseReport
+use Rattle.book.specs.declared.SegmentReport.the-variants as segmentReport
+use Rattle.book.specs.Arrangement.{caseWord, caseSpeed, networkAt, sizeAt, markAt, filledAt, caseAt}
+use Rattle.book.specs.Sound.{sound}
+use Rattle.book.proofs.Laid.{Laid}
+use Rattle.book.specs.Calls.{report, reportSegment, Answer, figures, caseSays, segmentSays}
+use Rattle.book.specs.Refusal.{askedNumber, refusal}
+use Rattle.book.specs.Perform.{Arrays, lent, refusalAt}
+use Rattle.metanet.specs.Report.{caseFigures, segmentFigures}
 use Rattle.study.specs.Figures.{figureAt, figuresAt, rowFigures, Summable, Reportable, Showable}
-use Rattle.study.proofs.Judging.{placed, size-high}
-use Rattle.study.proofs.Sounds.{laid, case-sound}
-use Rattle.study.proofs.Performing.{judged, accepted-sound}
-use Rattle.study.proofs.Network.{head-kept, segment-kept, size-word}
+use Rattle.book.proofs.Judging.{placed, size-high}
+use Rattle.book.proofs.Sounds.{laid, case-sound}
+use Rattle.book.proofs.Performing.{judged, accepted-sound}
+use Rattle.book.proofs.Network.{head-kept, segment-kept, size-word}
 
 -- ---- which row refuses
 

@@ -13,18 +13,18 @@ use borrow.Author.Tests.{ltb-false, le-ltb}
 use Rattle.laws.specs.First.{outside, row}
 use Rattle.laws.proofs.First.{row-applies, row-skipped, row-passed, row-later}
 use Rattle.laws.proofs.Tests.{or-right, inside-low, inside-high}
-use Rattle.network.specs.declared.Segment.{Segment}
-use Rattle.network.specs.Network.{networkFrom, segmentOf}
-use Rattle.study.specs.declared.Setting.{Setting}
-use Rattle.study.specs.Arrangement.{networkAt, sizeAt}
-use Rattle.study.specs.Sound.{sound}
-use Rattle.study.specs.Calls.{sign, meter}
-use Rattle.study.specs.Change.{complianceBad, raised, keptCompliance, signRefused, settingRefused}
-use Rattle.study.specs.Refusal.{refusal}
-use Rattle.study.specs.Perform.{refusalAt, rowWord, lent}
-use Rattle.study.proofs.Judging.{size-high}
-use Rattle.study.proofs.Sounds.{laid}
-use Rattle.study.proofs.Performing.{judged, accepted-sound}
+use Rattle.format.specs.declared.Segment.{Segment}
+use Rattle.format.specs.Network.{networkFrom, segmentOf}
+use Rattle.metanet.specs.declared.Setting.{Setting}
+use Rattle.book.specs.Arrangement.{networkAt, sizeAt}
+use Rattle.book.specs.Sound.{sound}
+use Rattle.book.specs.Calls.{sign, meter}
+use Rattle.metanet.specs.Change.{complianceBad, raised, keptCompliance, signRefused, settingRefused}
+use Rattle.book.specs.Refusal.{refusal}
+use Rattle.book.specs.Perform.{refusalAt, rowWord, lent}
+use Rattle.book.proofs.Judging.{size-high}
+use Rattle.book.proofs.Sounds.{laid}
+use Rattle.book.proofs.Performing.{judged, accepted-sound}
 
 -- ---- compliance
 

@@ -9,15 +9,15 @@ use lib.Ieee.{Float}
 use borrow.Author.Tests.{le-leb, eq-eqb, ne-eqb}
 use Rattle.laws.proofs.First.{row-applies, row-skipped, row-passed}
 use Rattle.laws.proofs.Tests.{inside-low, inside-high}
-use Rattle.study.specs.Arrangement.{sizeAt, markAt, filledAt}
-use Rattle.study.specs.Sound.{sound}
-use Rattle.study.specs.Calls.{hold, recall, dropSlot, accepted}
-use Rattle.study.specs.Refusal.{slotMissing, refusal}
-use Rattle.study.specs.Perform.{Arrays, refusalAt, copiedWords, copiedSpeeds, storedWords, storedSpeeds, answerOf, lent, Performs}
-use Rattle.study.specs.Ready.{Laid}
-use Rattle.study.proofs.Network.{size-word}
-use Rattle.study.proofs.Sounds.{laid}
-use Rattle.study.proofs.Performing.{judged, accepts, accepted-sound}
+use Rattle.book.specs.Arrangement.{sizeAt, markAt, filledAt}
+use Rattle.book.specs.Sound.{sound}
+use Rattle.book.specs.Calls.{hold, recall, dropSlot, accepted}
+use Rattle.book.specs.Refusal.{slotMissing, refusal}
+use Rattle.book.specs.Perform.{Arrays, refusalAt, copiedWords, copiedSpeeds, storedWords, storedSpeeds, answerOf, lent, Performs}
+use Rattle.book.proofs.Laid.{Laid}
+use Rattle.book.proofs.Network.{size-word}
+use Rattle.book.proofs.Sounds.{laid}
+use Rattle.book.proofs.Performing.{judged, accepts, accepted-sound}
 
 module _ (words : List ℕ) (speeds : List Float) (k : ℕ) where
   abbrev a : Arrays

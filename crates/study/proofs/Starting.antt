@@ -10,17 +10,17 @@ use borrow.Author.Tests.{ltb-false, eqb-true, not-false}
 use Rattle.laws.specs.First.{anyOf, row, first, firstOf}
 use Rattle.laws.proofs.First.{row-applies, row-skipped, row-passed, row-later, first-some, first-zero, first-zero-left, first-zero-right, firstOf-ext}
 use Rattle.laws.proofs.Tests.{or-left, or-right, anyOf-false}
-use Rattle.network.specs.declared.Segment.{Segment}
-use Rattle.network.specs.Network.{networkFrom, entryOf, segmentOf}
-use Rattle.network.specs.File.{headOf, segmentOn, entryOn, networkOf, fileNumber}
-use Rattle.network.specs.Accepted.{SegmentWithin}
-use Rattle.network.proofs.From.{from-segment, from-entry}
-use Rattle.network.proofs.File.{network-within}
-use Rattle.study.specs.Arrangement.{wordsFor, speedsFor}
-use Rattle.study.specs.Calls.{start}
-use Rattle.study.specs.Start.{startSegmentNumber, startNumber}
-use Rattle.study.specs.Refusal.{refusal}
-use Rattle.study.specs.Perform.{lent, refusalAt}
+use Rattle.format.specs.declared.Segment.{Segment}
+use Rattle.format.specs.Network.{networkFrom, entryOf, segmentOf}
+use Rattle.format.specs.File.{headOf, segmentOn, entryOn, networkOf, fileNumber}
+use Rattle.format.proofs.Accepted.{SegmentWithin}
+use Rattle.format.proofs.From.{from-segment, from-entry}
+use Rattle.format.proofs.File.{network-within}
+use Rattle.book.specs.Arrangement.{wordsFor, speedsFor}
+use Rattle.book.specs.Calls.{start}
+use Rattle.metanet.specs.Start.{startSegmentNumber, startNumber}
+use Rattle.book.specs.Refusal.{refusal}
+use Rattle.book.specs.Perform.{lent, refusalAt}
 use Rattle.study.specs.Ready.{startNumberOn, Listed}
 
 module _ (b : List ℕ) (z : fileNumber b ≡ 0) where

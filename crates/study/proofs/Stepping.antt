@@ -11,22 +11,22 @@ use lib.Ieee.{Float}
 use borrow.Author.Tests.{le-leb, lt-leb, leb-false}
 use Rattle.laws.specs.First.{row, first}
 use Rattle.laws.proofs.First.{row-applies, row-skipped, row-passed, first-some, first-zero, first-zero-left, first-zero-right}
-use Rattle.network.specs.Network.{entryOf, segmentOf}
-use Rattle.network.specs.Words.{headIn, entryIn, segmentIn}
-use Rattle.model.specs.Words.{netOf, caseIn, stepCaseWords, stepCaseSpeeds}
-use Rattle.model.specs.Ready.{Ready, CaseAt, TotalsOk}
-use Rattle.model.specs.Sound.{stepNumber, stepNumberIn}
-use Rattle.model.proofs.SoundLaws.{case-ready, case-total}
-use Rattle.model.proofs.SameNetwork.{step-number-from}
-use Rattle.study.specs.Arrangement.{caseWord, caseSpeed, networkAt, sizeAt, runCountAt, caseAt}
-use Rattle.study.specs.Sound.{sound}
-use Rattle.study.specs.Calls.{step}
-use Rattle.study.specs.Refusal.{refusal}
-use Rattle.study.specs.Perform.{lent, refusalAt, storedWords, storedSpeeds}
-use Rattle.study.proofs.Network.{size-word}
-use Rattle.study.proofs.Judging.{placed}
-use Rattle.study.proofs.Sounds.{laid, live-sound}
-use Rattle.study.proofs.Performing.{judged}
+use Rattle.format.specs.Network.{entryOf, segmentOf}
+use Rattle.format.specs.Words.{headIn, entryIn, segmentIn}
+use Rattle.metanet.specs.Words.{netOf, caseIn, stepCaseWords, stepCaseSpeeds}
+use Rattle.metanet.proofs.Ready.{Ready, CaseAt, TotalsOk}
+use Rattle.metanet.specs.Sound.{stepNumber, stepNumberIn}
+use Rattle.metanet.proofs.SoundLaws.{case-ready, case-total}
+use Rattle.metanet.proofs.SameNetwork.{step-number-from}
+use Rattle.book.specs.Arrangement.{caseWord, caseSpeed, networkAt, sizeAt, runCountAt, caseAt}
+use Rattle.book.specs.Sound.{sound}
+use Rattle.book.specs.Calls.{step}
+use Rattle.book.specs.Refusal.{refusal}
+use Rattle.book.specs.Perform.{lent, refusalAt, storedWords, storedSpeeds}
+use Rattle.book.proofs.Network.{size-word}
+use Rattle.book.proofs.Judging.{placed}
+use Rattle.book.proofs.Sounds.{laid, live-sound}
+use Rattle.book.proofs.Performing.{judged}
 
 -- the live case stands first
 pub live-word : (n : ℕ) → caseWord n 0 ≡ 2576

@@ -8,16 +8,16 @@ use lib.ListN.{drop}
 use lib.Ieee.{Float}
 use Rattle.laws.specs.First.{ifAccepted}
 use Rattle.laws.proofs.First.{row-applies, row-skipped, first-zero, when-accepted, when-refused}
-use Rattle.network.specs.declared.Head.{Head}
-use Rattle.network.specs.Network.{networkFrom}
-use Rattle.network.specs.File.{fileSize}
-use Rattle.network.specs.Written.{fileOf}
-use Rattle.network.specs.Words.{headIn, networkIn, writeNumber, writeBytes}
-use Rattle.model.specs.Words.{netOf}
-use Rattle.study.specs.Sound.{sound}
-use Rattle.study.specs.Calls.{Answer, refused, figures}
-use Rattle.study.specs.Write.{writeRefusal, writtenBytes, writeAnswer}
-use Rattle.study.proofs.Sounds.{kept}
+use Rattle.format.specs.declared.Head.{Head}
+use Rattle.format.specs.Network.{networkFrom}
+use Rattle.format.specs.File.{fileSize}
+use Rattle.format.specs.Written.{fileOf}
+use Rattle.format.specs.Words.{headIn, networkIn, writeNumber, writeBytes}
+use Rattle.metanet.specs.Words.{netOf}
+use Rattle.book.specs.Sound.{sound}
+use Rattle.book.specs.Calls.{Answer, refused, figures}
+use Rattle.book.specs.Write.{writeRefusal, writtenBytes, writeAnswer}
+use Rattle.book.proofs.Sounds.{kept}
 
 -- an answer, and the buffer afterwards, are what Write gives
 pub record Writes (words : List ℕ) (speeds : List Float) (out : List ℕ) (answer : Answer) (out' : List ℕ) : Type 0 where

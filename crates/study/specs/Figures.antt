@@ -8,15 +8,15 @@ use lib.Dec.{T}
 use lib.IntN.{pos}
 use lib.Ieee.{Float, fin, binary64, isNan, lt, toBits, toUnsigned}
 use Rattle.laws.specs.Sums.{sumOf}
-use Rattle.network.specs.declared.Segment.{Segment}
-use Rattle.model.specs.declared.Row.{Row}
-use Rattle.model.specs.Step.{rateOf}
-use Rattle.model.specs.Sound.{mvMost}
-use Rattle.study.specs.declared.CaseFigures.{CaseFigures}
-use Rattle.study.specs.declared.SegmentFigures.{SegmentFigures}
-use Rattle.study.specs.Arrangement.{slots}
-use Rattle.study.specs.Sound.{placeNumber}
-use Rattle.study.specs.Ready.{Laid}
+use Rattle.format.specs.declared.Segment.{Segment}
+use Rattle.metanet.specs.declared.Row.{Row}
+use Rattle.metanet.specs.Step.{rateOf}
+use Rattle.metanet.specs.Sound.{mvMost}
+use Rattle.book.specs.declared.CaseFigures.{CaseFigures}
+use Rattle.book.specs.declared.SegmentFigures.{SegmentFigures}
+use Rattle.book.specs.Arrangement.{slots}
+use Rattle.book.specs.Sound.{placeNumber}
+use Rattle.book.proofs.Laid.{Laid}
 
 -- figure o of row i of the case whose rows start at word at: 0 is N, 1 is w
 abbrev pub figureAt : List ℕ → ℕ → ℕ → ℕ → ℕ

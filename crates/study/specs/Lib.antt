@@ -1,14 +1,2 @@
-pub mod Arrangement
-pub mod Sound
-pub mod Calls
-pub mod Start
-pub mod Change
-pub mod Refusal
-pub mod Perform
-pub mod Book
-pub mod Claim
-pub mod Ready
-pub mod Agreed
-pub mod Example
 pub mod Figures
-pub mod Write
+pub mod Ready

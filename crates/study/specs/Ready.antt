@@ -1,22 +1,12 @@
 -- What the functions inside rest on.
-use Prim.Native.Nat.{ℕ, _+_, _*_, _≤_}
+use Prim.Native.Nat.{ℕ, _+_, _*_}
 use mathlib.Core.Path.{_≡_}
 use mathlib.Core.List.{List, [], _∷_, _++_}
 use lib.ListN.{length, getD, drop, replicate}
-use lib.Ieee.{Float}
 use Rattle.laws.specs.Lists.{parts}
-use Rattle.network.specs.File.{headOf, segmentOn, entryOn, networkOf, fileNumber}
-use Rattle.network.specs.Words.{keptWords}
-use Rattle.model.specs.Ready.{NetworkOk}
-use Rattle.study.specs.Arrangement.{wordsFor, speedsFor, sizeAt}
-use Rattle.study.specs.Start.{startSegmentNumber}
-
--- the network is within rows 4, 6, 7 and 8, n is its size, and the arrays are long enough
-pub record Laid (words : List ℕ) (speeds : List Float) (n : ℕ) : Type 0 where
-  pub net : NetworkOk words
-  pub size : n ≡ sizeAt words
-  pub room : wordsFor n ≤ length words
-  pub lane : speedsFor n ≤ length speeds
+use Rattle.format.specs.File.{headOf, segmentOn, entryOn, networkOf, fileNumber}
+use Rattle.format.specs.Words.{keptWords}
+use Rattle.metanet.specs.Start.{startSegmentNumber}
 
 -- 14, of segment i, as the file's bytes say it
 abbrev pub startNumberOn : List ℕ → List ℕ → List ℕ → List ℕ → ℕ → ℕ

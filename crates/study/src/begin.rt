@@ -6,10 +6,10 @@ ghost use mathlib.Core.List.{_++_};
 ghost use Rattle.laws.specs.First.{firstOf};
 ghost use Rattle.laws.specs.Lists.{table, putPart, puts};
 ghost use Rattle.laws.specs.Real.{real};
-ghost use Rattle.network.specs.File.{fileNumber, headOf, segmentOn};
-ghost use Rattle.study.specs.Calls.{start};
-ghost use Rattle.study.specs.Start.{startSegmentNumber};
-ghost use Rattle.study.specs.Perform.{lent, refusalAt};
+ghost use Rattle.format.specs.File.{fileNumber, headOf, segmentOn};
+ghost use Rattle.book.specs.Calls.{start};
+ghost use Rattle.metanet.specs.Start.{startSegmentNumber};
+ghost use Rattle.book.specs.Perform.{lent, refusalAt};
 ghost use Rattle.study.specs.Ready.{startNumberOn, Listed, openWords, openWordsOn, beginWords};
 
 fn wide(x: u32) -> u64
@@ -27,7 +27,7 @@ fn entry(list: &[u32], i: usize) -> u64
 }
 
 // 14, of a segment whose curve begins at top, for its mv, speed and queue.
-fn value_number(s: network::Segment, top: u64, mv: u64, speed: u64, queue: u64) -> u64
+fn value_number(s: format::Segment, top: u64, mv: u64, speed: u64, queue: u64) -> u64
     requires { ⌜ (s .jam ≤ 200) × (s .metres ≤ 2000) × (s .lanes ≤ 8) ⌝ }
     ensures { λ r. ⌜ r ≡ startSegmentNumber s top mv speed queue ⌝ }
 {

@@ -1,10 +1,10 @@
 // What a sign and a setting put into a segment's row of 16 words.
-use crate::Setting;
+use metanet::Setting;
 ghost use mathlib.Core.Path.{_≡_};
 ghost use mathlib.Core.Bool.{false};
 ghost use lib.ListN.{length, set};
-ghost use Rattle.study.specs.Change.{complianceBad, raised, keptCompliance};
-ghost use Rattle.study.specs.Perform.{signedWords, meteredWords};
+ghost use Rattle.metanet.specs.Change.{complianceBad, raised, keptCompliance};
+ghost use Rattle.book.specs.Perform.{signedWords, meteredWords};
 
 // A compliance of −500..500 with 500 added.
 fn raised(compliance: i64) -> u64

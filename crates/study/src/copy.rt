@@ -3,8 +3,8 @@ ghost use mathlib.Core.Path.{_≡_};
 ghost use Prim.Native.Nat.{_+_, _≤_};
 ghost use lib.ListN.{length};
 ghost use Rattle.laws.specs.Lists.{part, putPart};
-ghost use Rattle.study.specs.Arrangement.{wordsFor, speedsFor};
-ghost use Rattle.study.specs.Perform.{copiedWords, copiedSpeeds};
+ghost use Rattle.book.specs.Arrangement.{wordsFor, speedsFor};
+ghost use Rattle.book.specs.Perform.{copiedWords, copiedSpeeds};
 
 // The part of len words at `from`, over the one at `to`. Two parts of the lent words are never lent at once: what is copied is held in
 // between.

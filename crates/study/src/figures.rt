@@ -1,17 +1,17 @@
 // The figures that a report gives.
-use crate::CaseFigures;
-use crate::SegmentFigures;
-use network::Segment;
+use book::CaseFigures;
+use book::SegmentFigures;
+use format::Segment;
 ghost use mathlib.Core.Path.{_≡_};
 ghost use mathlib.Core.Bool.{cond};
 ghost use Prim.Native.Nat.{_<_, _≤_};
 ghost use lib.Dec.{eqb};
 ghost use lib.ListN.{length};
 ghost use Rattle.laws.specs.Sums.{sumOf};
-ghost use Rattle.network.specs.Words.{segmentIn};
-ghost use Rattle.model.specs.Case.{openKind};
-ghost use Rattle.model.specs.Words.{netOf, rowIn, rowAt};
-ghost use Rattle.study.specs.Arrangement.{caseWord, caseSpeed};
+ghost use Rattle.format.specs.Words.{segmentIn};
+ghost use Rattle.metanet.specs.Case.{openKind};
+ghost use Rattle.metanet.specs.Words.{netOf, rowIn, rowAt};
+ghost use Rattle.book.specs.Arrangement.{caseWord, caseSpeed};
 ghost use Rattle.study.specs.Figures.{figureAt, figuresAt, rowFigures, Summable, Reportable, Showable};
 
 // The sum of figure o of the n rows that start at word at.

@@ -2,8 +2,8 @@
 ghost use mathlib.Core.Path.{_≡_};
 ghost use Prim.Native.Nat.{_+_, _<_, _≤_};
 ghost use Rattle.laws.specs.First.{firstOf};
-ghost use Rattle.study.specs.Sound.{placeNumber, slotNumber, casesNumber, soundNumber};
-ghost use Rattle.study.specs.Ready.{Laid};
+ghost use Rattle.book.specs.Sound.{placeNumber, slotNumber, casesNumber, soundNumber};
+ghost use Rattle.book.proofs.Laid.{Laid};
 
 // Case k.
 fn place_number(words: &[u64], speeds: &[f64], n: usize, k: usize) -> u64

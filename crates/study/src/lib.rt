@@ -7,77 +7,23 @@ mod change; // change.rt: what a sign and a setting put into a row
 mod copy; // copy.rt: a case copied to the place of another
 mod figures; // figures.rt: the figures that a report gives
 
+use book::CaseReport;
+use book::RunReport;
+use book::SegmentReport;
+use book::Verdict;
+use book::Written;
+use metanet::Setting;
 ghost use mathlib.Core.Path.{_≡_};
-ghost use Rattle.study.specs.Sound.{sound};
-ghost use Rattle.study.specs.Calls.{start, sign, meter, step, hold, recall, dropSlot, report, reportSegment, reportRuns};
-ghost use Rattle.study.specs.Calls.{verdictSays, caseSays, segmentSays, runSays};
-ghost use Rattle.study.specs.Perform.{Performs};
-ghost use Rattle.study.specs.Write.{writtenBytes, writeAnswer, writtenSays};
+ghost use Rattle.book.specs.Sound.{sound};
+ghost use Rattle.book.specs.Calls.{start, sign, meter, step, hold, recall, dropSlot, report, reportSegment, reportRuns};
+ghost use Rattle.book.specs.Calls.{verdictSays, caseSays, segmentSays, runSays};
+ghost use Rattle.book.specs.Perform.{Performs};
+ghost use Rattle.book.specs.Write.{writtenBytes, writeAnswer, writtenSays};
 
 // The word of the run count, k words before the mark of slot k; and the first word of the live case, before those of the slots.
 pub(crate) const RUN_WORD: usize = network::NETWORK_WORDS;
 
 pub(crate) const FIRST_CASE: usize = RUN_WORD + 16;
-
-// A ramp's setting: open, fixed at a rate in mv a step, or ALINEA with target in veh/km/lane, gain and least in mv, interval z in steps.
-pub enum Setting {
-    Open,
-    Fixed(u64),
-    Alinea {
-        target: u64,
-        gain: u64,
-        least: u64,
-        interval: u64,
-    },
-}
-
-// What a call that changes the study answers.
-pub enum Verdict {
-    Refused(u64),
-    Accepted,
-}
-
-// Figures of a case: steps taken; mv in segments, in queues, arrived and left; time spent in mv·s.
-pub struct CaseFigures {
-    pub steps: u64,
-    pub segments: u64,
-    pub queues: u64,
-    pub arrivals: u64,
-    pub exits: u64,
-    pub time: u64,
-}
-
-pub enum CaseReport {
-    Refused(u64),
-    Figures(CaseFigures),
-}
-
-// Figures of a segment: N, the whole part s of v, the bits of v, queue w, last outflow, last release, R.
-pub struct SegmentFigures {
-    pub count: u64,
-    pub whole: u64,
-    pub bits: u64,
-    pub queue: u64,
-    pub outflow: u64,
-    pub release: u64,
-    pub rate: u64,
-}
-
-pub enum SegmentReport {
-    Refused(u64),
-    Figures(SegmentFigures),
-}
-
-pub enum RunReport {
-    Refused(u64),
-    Count(u64),
-}
-
-// What Write answers: how many bytes it has written.
-pub enum Written {
-    Refused(u64),
-    Bytes(u64),
-}
 
 // Whether the arrays hold a sound study. Nothing is presumed of them.
 pub fn sound(words: &[u64], speeds: &[f64]) -> bool

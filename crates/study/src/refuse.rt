@@ -1,10 +1,10 @@
 // The number that refuses a call: 12 where the study is not sound, then the rows of its part of the table in their order, or 0.
-use crate::Setting;
+use metanet::Setting;
 use crate::segment;
 ghost use mathlib.Core.Path.{_≡_};
-ghost use Rattle.study.specs.Calls.{sign, meter, step, hold, recall, report, reportSegment};
-ghost use Rattle.study.specs.Change.{complianceBad, signRefused, settingRefused};
-ghost use Rattle.study.specs.Perform.{lent, refusalAt};
+ghost use Rattle.book.specs.Calls.{sign, meter, step, hold, recall, report, reportSegment};
+ghost use Rattle.metanet.specs.Change.{complianceBad, signRefused, settingRefused};
+ghost use Rattle.book.specs.Perform.{lent, refusalAt};
 
 fn compliance_bad(compliance: i64) -> bool
     ensures { λ r. ⌜ r ≡ complianceBad compliance ⌝ }

@@ -1,11 +1,11 @@
 // A segment by the paper's number, 1..n.
-use network::Segment;
+use format::Segment;
 ghost use mathlib.Core.Path.{_≡_};
 ghost use Prim.Native.Nat.{_-_, _≤_};
 ghost use lib.ListN.{length};
 ghost use Rattle.laws.specs.First.{outside};
-ghost use Rattle.network.specs.Network.{segmentOf};
-ghost use Rattle.study.specs.Arrangement.{networkAt, sizeAt};
+ghost use Rattle.format.specs.Network.{segmentOf};
+ghost use Rattle.book.specs.Arrangement.{networkAt, sizeAt};
 
 // 17: segment outside 1..n.
 pub(crate) fn segment_missing(words: &[u64], i: u64) -> bool

@@ -11,7 +11,7 @@ fn last(x: u64) {
     io::write_all(1, b"\n");
 }
 
-fn line(f: study::CaseFigures) {
+fn line(f: book::CaseFigures) {
     space(f.steps);
     space(f.segments);
     space(f.queues);
@@ -23,8 +23,8 @@ fn line(f: study::CaseFigures) {
 // The live case's figures.
 fn tally(words: &[u64], speeds: &[f64]) {
     match study::report(words, speeds, 0) {
-        study::CaseReport::Refused(number) => last(number),
-        study::CaseReport::Figures(f) => line(f),
+        book::CaseReport::Refused(number) => last(number),
+        book::CaseReport::Figures(f) => line(f),
     }
 }
 
@@ -32,8 +32,8 @@ fn tally(words: &[u64], speeds: &[f64]) {
 fn step(words: &mut [u64], speeds: &mut [f64], d: u32) {
     let arrivals = [d];
     match study::step(words, speeds, &arrivals) {
-        study::Verdict::Refused(number) => last(number),
-        study::Verdict::Accepted => tally(words, speeds),
+        book::Verdict::Refused(number) => last(number),
+        book::Verdict::Accepted => tally(words, speeds),
     }
 }
 
@@ -49,8 +49,8 @@ fn run(file: &[u8], words: &mut [u64], speeds: &mut [f64]) {
     let starts = [90000];
     let queues = [5000];
     match study::start(words, speeds, file, &mvs, &starts, &queues) {
-        study::Verdict::Refused(number) => last(number),
-        study::Verdict::Accepted => list(words, speeds),
+        book::Verdict::Refused(number) => last(number),
+        book::Verdict::Accepted => list(words, speeds),
     }
 }
 

@@ -5,8 +5,8 @@ use denote.Ref.{now}
 use borrow.Author.Needs.{needs}
 use borrow.Author.Tests.{lt-ltb, le-ltb}
 use Rattle.laws.proofs.First.{row-applies, row-skipped, first-some, first-zero, when-accepted, when-refused}
-use Rattle.network.specs.Curve.{curveCallNumber}
-use Rattle.network.proofs.CurveCall.{curve-below}
+use Rattle.format.specs.Curve.{curveCallNumber}
+use Rattle.format.proofs.CurveCall.{curve-below}
 use Rattle.engine.specs.Place.{placeNumber, placeWords}
 use Rattle.engine.proofs.network_curve.Statement.{statement}
 use Rattle.engine.proofs.network_curve.Tie as tie

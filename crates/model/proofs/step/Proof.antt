@@ -4,8 +4,8 @@ use native.Mathlib.Omega.{arith}
 use lib.ListN.{getD}
 use borrow.Author.Needs.{needs}
 use Rattle.laws.proofs.Lists.{span}
-use Rattle.model.proofs.Turns.{size-high}
-use Rattle.model.proofs.CaseLaws.{vehicles-high, spent-high, totals-ok, case-made}
+use Rattle.metanet.proofs.Turns.{size-high}
+use Rattle.metanet.proofs.CaseLaws.{vehicles-high, spent-high, totals-ok, case-made}
 use Rattle.model.proofs.step.Statement.{statement}
 use Rattle.model.proofs.step.Tie as tie
 

@@ -3,9 +3,9 @@ use mathlib.Core.Path.{_≡_, sym, _∙_}
 use native.Mathlib.Omega.{arith}
 use native.Mathlib.Nat.{le-refl}
 use denote.Ref.{now}
-use Rattle.network.specs.File.{headNumber, curvesNumber, recordsNumber}
-use Rattle.network.specs.Accepted.{Sized}
-use Rattle.network.proofs.File.{head-accepted, file-head, file-curves, file-records}
+use Rattle.format.specs.File.{headNumber, curvesNumber, recordsNumber}
+use Rattle.format.proofs.Accepted.{Sized}
+use Rattle.format.proofs.File.{head-accepted, file-head, file-curves, file-records}
 use borrow.Author.Needs.{needs}
 use Rattle.network.proofs.check.Statement.{statement}
 use Rattle.network.proofs.check.Tie as tie

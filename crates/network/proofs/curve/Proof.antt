@@ -2,9 +2,9 @@ use mathlib.Core.Path.{_≡_, sym, _∙_}
 use native.Mathlib.Omega.{arith}
 use denote.Ref.{now}
 use Rattle.laws.proofs.Lists.{span}
-use Rattle.network.specs.File.{curveStart}
-use Rattle.network.specs.Curve.{curveCallNumber}
-use Rattle.network.proofs.CurveCall.{curve-below, curve-ends, curve-bytes-none, curve-bytes-some}
+use Rattle.format.specs.File.{curveStart}
+use Rattle.format.specs.Curve.{curveCallNumber}
+use Rattle.format.proofs.CurveCall.{curve-below, curve-ends, curve-bytes-none, curve-bytes-some}
 use borrow.Author.Needs.{needs}
 use Rattle.network.proofs.curve.Statement.{statement}
 use Rattle.network.proofs.curve.Tie as tie

@@ -1,7 +1,7 @@
 use mathlib.Core.Path.{_≡_, sym, _∙_}
 use denote.Ref.{now}
-use Rattle.network.specs.File.{fileNumber}
-use Rattle.network.proofs.CurveCall.{curve-call-file, curve-call-none, curve-call-some}
+use Rattle.format.specs.File.{fileNumber}
+use Rattle.format.proofs.CurveCall.{curve-call-file, curve-call-none, curve-call-some}
 use borrow.Author.Needs.{needs}
 use Rattle.network.proofs.curve_number.Statement.{statement}
 use Rattle.network.proofs.curve_number.Tie as tie

@@ -7,8 +7,8 @@ use denote.Ref.{now}
 use borrow.Author.Needs.{needs}
 use borrow.Author.Tests.{ltb-false}
 use Rattle.laws.proofs.Tests.{or-left, or-right}
-use Rattle.network.specs.File.{headOf}
-use Rattle.network.proofs.KeepCall.{keep-none, keep-short, keep-fits, keep-stays, keep-is}
+use Rattle.format.specs.File.{headOf}
+use Rattle.format.proofs.KeepCall.{keep-none, keep-short, keep-fits, keep-stays, keep-is}
 use Rattle.network.proofs.keep.Statement.{statement}
 use Rattle.network.proofs.keep.Tie as tie
 

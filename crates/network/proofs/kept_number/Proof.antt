@@ -2,7 +2,7 @@ use mathlib.Core.Path.{sym, _∙_}
 use borrow.Author.Needs.{needs}
 use borrow.Author.Tests.{lt-ltb, le-ltb}
 use Rattle.laws.proofs.First.{row-applies, row-skipped}
-use Rattle.network.specs.Words.{keptNumber}
+use Rattle.format.specs.Words.{keptNumber}
 use Rattle.network.proofs.kept_number.Statement.{statement}
 use Rattle.network.proofs.kept_number.Tie as tie
 

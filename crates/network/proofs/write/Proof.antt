@@ -3,9 +3,9 @@ use mathlib.Core.Path.{_≡_, sym, _∙_}
 use native.Mathlib.Omega.{arith}
 use denote.Ref.{now}
 use borrow.Author.Needs.{needs}
-use Rattle.network.specs.Words.{keptNumber}
-use Rattle.network.specs.Accepted.{Kept}
-use Rattle.network.proofs.Keeping.{kept-head, write-refused, write-short, write-fits, write-stays, write-is}
+use Rattle.format.specs.Words.{keptNumber}
+use Rattle.format.proofs.Accepted.{Kept}
+use Rattle.format.proofs.Keeping.{kept-head, write-refused, write-short, write-fits, write-stays, write-is}
 use Rattle.network.proofs.write.Statement.{statement}
 use Rattle.network.proofs.write.Tie as tie
 

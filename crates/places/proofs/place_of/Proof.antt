@@ -1,4 +1,4 @@
-use Rattle.places.specs.Place.{placeOf}
+use Rattle.format.specs.Place.{placeOf}
 use borrow.Author.Needs.{needs}
 use Rattle.places.proofs.place_of.Statement.{statement}
 use Rattle.places.proofs.place_of.Tie as tie

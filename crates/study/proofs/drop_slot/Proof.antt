@@ -1,9 +1,9 @@
 use mathlib.Core.Path.{_≡_, sym, _∙_}
 use native.Mathlib.Omega.{arith}
 use borrow.Author.Needs.{needs}
-use Rattle.study.specs.Calls.{recall, dropSlot}
-use Rattle.study.specs.Perform.{refusalAt, lent}
-use Rattle.study.proofs.Performing.{refuses}
+use Rattle.book.specs.Calls.{recall, dropSlot}
+use Rattle.book.specs.Perform.{refusalAt, lent}
+use Rattle.book.proofs.Performing.{refuses}
 use Rattle.study.proofs.Slots.{SlotAt, drop-as-recall, recall-slot, dropped}
 use Rattle.study.proofs.drop_slot.Statement.{statement}
 use Rattle.study.proofs.drop_slot.Tie as tie

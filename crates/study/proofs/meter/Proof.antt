@@ -4,11 +4,11 @@ use native.Mathlib.Omega.{arith}
 use borrow.Author.Needs.{needs}
 use Rattle.laws.proofs.Lists.{span}
 use Rattle.laws.proofs.Puts.{part-changed}
-use Rattle.network.specs.Network.{segmentOf}
-use Rattle.study.specs.Arrangement.{networkAt}
-use Rattle.study.specs.Calls.{meter}
-use Rattle.study.specs.Perform.{refusalAt, rowWord, meteredWords, storedWords, storedSpeeds, answerOf, lent}
-use Rattle.study.proofs.Performing.{refuses, accepts}
+use Rattle.format.specs.Network.{segmentOf}
+use Rattle.book.specs.Arrangement.{networkAt}
+use Rattle.book.specs.Calls.{meter}
+use Rattle.book.specs.Perform.{refusalAt, rowWord, meteredWords, storedWords, storedSpeeds, answerOf, lent}
+use Rattle.book.proofs.Performing.{refuses, accepts}
 use Rattle.study.proofs.Settings.{RowWithin, meter-within}
 use Rattle.study.proofs.meter.Statement.{statement}
 use Rattle.study.proofs.meter.Tie as tie

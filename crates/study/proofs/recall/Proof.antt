@@ -1,10 +1,10 @@
 use mathlib.Core.Path.{_≡_, sym, _∙_}
 use native.Mathlib.Omega.{arith}
 use borrow.Author.Needs.{needs}
-use Rattle.study.specs.Calls.{recall}
-use Rattle.study.specs.Perform.{refusalAt, lent}
-use Rattle.study.proofs.Judging.{size-high}
-use Rattle.study.proofs.Performing.{refuses}
+use Rattle.book.specs.Calls.{recall}
+use Rattle.book.specs.Perform.{refusalAt, lent}
+use Rattle.book.proofs.Judging.{size-high}
+use Rattle.book.proofs.Performing.{refuses}
 use Rattle.study.proofs.Slots.{SlotAt, recall-slot, recalled}
 use Rattle.study.proofs.recall.Statement.{statement}
 use Rattle.study.proofs.recall.Tie as tie

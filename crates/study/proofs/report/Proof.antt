@@ -2,11 +2,11 @@
 use mathlib.Core.Path.{_≡_, refl, sym, ap, _∙_}
 use native.Mathlib.Omega.{arith}
 use borrow.Author.Needs.{needs}
-use Rattle.study.specs.declared.CaseFigures.{CaseFigures}
-use Rattle.study.specs.declared.CaseReport.the-variants as caseReport
-use Rattle.study.specs.Calls.{report, caseSays}
-use Rattle.study.specs.Perform.{lent, refusalAt, storedWords, storedSpeeds, answerOf}
-use Rattle.study.proofs.Performing.{refuses, accepts}
+use Rattle.book.specs.declared.CaseFigures.{CaseFigures}
+use Rattle.book.specs.declared.CaseReport.the-variants as caseReport
+use Rattle.book.specs.Calls.{report, caseSays}
+use Rattle.book.specs.Perform.{lent, refusalAt, storedWords, storedSpeeds, answerOf}
+use Rattle.book.proofs.Performing.{refuses, accepts}
 use Rattle.study.proofs.Reporting.{reportable, report-long, counts-summable, queues-summable, case-shown}
 use Rattle.study.proofs.report.Statement.{statement}
 use Rattle.study.proofs.report.Tie as tie

@@ -3,11 +3,11 @@ use Prim.Native.Nat.{_-_}
 use mathlib.Core.Path.{_≡_, refl, sym, ap, _∙_}
 use native.Mathlib.Omega.{arith}
 use borrow.Author.Needs.{needs}
-use Rattle.study.specs.declared.SegmentFigures.{SegmentFigures}
-use Rattle.study.specs.declared.SegmentReport.the-variants as segmentReport
-use Rattle.study.specs.Calls.{reportSegment, segmentSays}
-use Rattle.study.specs.Perform.{lent, refusalAt, storedWords, storedSpeeds, answerOf}
-use Rattle.study.proofs.Performing.{refuses, accepts}
+use Rattle.book.specs.declared.SegmentFigures.{SegmentFigures}
+use Rattle.book.specs.declared.SegmentReport.the-variants as segmentReport
+use Rattle.book.specs.Calls.{reportSegment, segmentSays}
+use Rattle.book.specs.Perform.{lent, refusalAt, storedWords, storedSpeeds, answerOf}
+use Rattle.book.proofs.Performing.{refuses, accepts}
 use Rattle.study.proofs.Reporting.{reportable, report-long, segment-accepted, segment-low, segment-high, segment-shown}
 use Rattle.study.proofs.report_segment.Statement.{statement}
 use Rattle.study.proofs.report_segment.Tie as tie

@@ -4,12 +4,12 @@ use mathlib.Core.Bool.{true}
 use native.Mathlib.Omega.{arith}
 use borrow.Author.Needs.{needs}
 use borrow.Author.Tests.{not-true, not-false}
-use Rattle.study.specs.Calls.{reportRuns}
-use Rattle.study.specs.Sound.{sound}
-use Rattle.study.specs.Refusal.{refusal}
-use Rattle.study.specs.Perform.{storedWords, storedSpeeds, answerOf}
-use Rattle.study.proofs.Sounds.{laid}
-use Rattle.study.proofs.Performing.{refuses, accepts, unsound, judged}
+use Rattle.book.specs.Calls.{reportRuns}
+use Rattle.book.specs.Sound.{sound}
+use Rattle.book.specs.Refusal.{refusal}
+use Rattle.book.specs.Perform.{storedWords, storedSpeeds, answerOf}
+use Rattle.book.proofs.Sounds.{laid}
+use Rattle.book.proofs.Performing.{refuses, accepts, unsound, judged}
 use Rattle.study.proofs.run_count.Statement.{statement}
 use Rattle.study.proofs.run_count.Tie as tie
 

@@ -6,10 +6,10 @@ use mir.ValLaws.{toZ-ofZ}
 use borrow.Author.Needs.{needs}
 use Rattle.laws.proofs.Lists.{span, length-part}
 use Rattle.laws.proofs.Puts.{part-changed}
-use Rattle.study.specs.Calls.{sign}
-use Rattle.study.specs.Change.{complianceBad}
-use Rattle.study.specs.Perform.{refusalAt, rowWord, signedWords, storedWords, storedSpeeds, answerOf, lent}
-use Rattle.study.proofs.Performing.{refuses, accepts}
+use Rattle.book.specs.Calls.{sign}
+use Rattle.metanet.specs.Change.{complianceBad}
+use Rattle.book.specs.Perform.{refusalAt, rowWord, signedWords, storedWords, storedSpeeds, answerOf, lent}
+use Rattle.book.proofs.Performing.{refuses, accepts}
 use Rattle.study.proofs.Settings.{RowWithin, sign-within, sign-compliance}
 use Rattle.study.proofs.sign.Statement.{statement}
 use Rattle.study.proofs.sign.Tie as tie

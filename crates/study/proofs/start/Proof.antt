@@ -3,11 +3,11 @@ use mathlib.Core.Path.{_≡_, refl, sym, ap, _∙_}
 use native.Mathlib.Omega.{arith}
 use denote.Ref.{now}
 use borrow.Author.Needs.{needs}
-use Rattle.network.specs.declared.Head.{Head}
-use Rattle.network.specs.File.{headOf}
-use Rattle.study.specs.Calls as calls
-use Rattle.study.specs.Perform.{lent, refusalAt, answerOf}
-use Rattle.study.proofs.Performing.{refuses, accepts}
+use Rattle.format.specs.declared.Head.{Head}
+use Rattle.format.specs.File.{headOf}
+use Rattle.book.specs.Calls as calls
+use Rattle.book.specs.Perform.{lent, refusalAt, answerOf}
+use Rattle.book.proofs.Performing.{refuses, accepts}
 use Rattle.study.proofs.Starting.{start-file, start-room, start-lane, start-listed}
 use Rattle.study.proofs.Beginning.{start-words, start-speeds}
 use Rattle.study.proofs.start.Statement.{statement}

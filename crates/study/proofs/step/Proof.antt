@@ -6,10 +6,10 @@ use native.Mathlib.Omega.{arith}
 use Prim.Native.Nat.{ℕ, _+_}
 use lib.ListN.{getD, set}
 use borrow.Author.Needs.{needs}
-use Rattle.study.specs.Calls.{step}
-use Rattle.study.specs.Sound.{sound}
-use Rattle.study.specs.Perform.{lent, refusalAt, answerOf}
-use Rattle.study.proofs.Performing.{refuses, accepts, accepted-sound}
+use Rattle.book.specs.Calls.{step}
+use Rattle.book.specs.Sound.{sound}
+use Rattle.book.specs.Perform.{lent, refusalAt, answerOf}
+use Rattle.book.proofs.Performing.{refuses, accepts, accepted-sound}
 use Rattle.study.proofs.Stepping.{runs-left, step-ready, step-totals, step-long, step-words, step-speeds}
 use Rattle.study.proofs.step.Statement.{statement}
 use Rattle.study.proofs.step.Tie as tie

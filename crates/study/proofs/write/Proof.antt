@@ -5,9 +5,9 @@ use native.Mathlib.Omega.{arith}
 use lib.Seq.{length-take-le}
 use borrow.Author.Needs.{needs}
 use borrow.Author.Tests.{not-true, not-false}
-use Rattle.network.specs.Accepted.{HeadWithin}
-use Rattle.study.specs.Sound.{sound}
-use Rattle.study.proofs.Sounds.{laid}
+use Rattle.format.proofs.Accepted.{HeadWithin}
+use Rattle.book.specs.Sound.{sound}
+use Rattle.book.proofs.Sounds.{laid}
 use Rattle.study.proofs.Writing.{write-unsound, write-refuses, write-answers}
 use Rattle.study.proofs.write.Statement.{statement}
 use Rattle.study.proofs.write.Tie as tie

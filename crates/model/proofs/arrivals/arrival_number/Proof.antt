@@ -1,7 +1,7 @@
 use mathlib.Core.Path.{sym}
 use borrow.Author.Needs.{needs}
 use Rattle.laws.proofs.First.{row-applies, row-skipped}
-use Rattle.model.specs.Sound.{arrivalNumber}
+use Rattle.metanet.specs.Sound.{arrivalNumber}
 use Rattle.model.proofs.arrivals.arrival_number.Statement.{statement}
 use Rattle.model.proofs.arrivals.arrival_number.Tie as tie
 

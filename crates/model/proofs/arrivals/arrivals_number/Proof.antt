@@ -2,8 +2,8 @@
 use Prim.Native.Nat.{_-_}
 use borrow.Author.Needs.{needs}
 use Rattle.laws.proofs.First.{Passed, passed-none, passed-found, passed-more, passed-end}
-use Rattle.network.specs.Words.{headIn, entryIn, segmentIn}
-use Rattle.model.specs.Sound.{arrivalNumber}
+use Rattle.format.specs.Words.{headIn, entryIn, segmentIn}
+use Rattle.metanet.specs.Sound.{arrivalNumber}
 use Rattle.model.proofs.arrivals.arrivals_number.Statement.{statement}
 use Rattle.model.proofs.arrivals.arrivals_number.Tie as tie
 

@@ -8,8 +8,8 @@ use borrow.Author.Needs.{needs}
 use borrow.Author.Tests.{eq-eqb, ne-eqb, le-leb, lt-leb}
 use Rattle.laws.specs.First.{firstOf}
 use Rattle.laws.proofs.First.{row-applies, row-skipped, first-some, first-zero}
-use Rattle.network.specs.Words.{headIn, entryIn, segmentIn}
-use Rattle.model.specs.Sound.{arrivalNumber, stepNumber}
+use Rattle.format.specs.Words.{headIn, entryIn, segmentIn}
+use Rattle.metanet.specs.Sound.{arrivalNumber, stepNumber}
 use Rattle.model.proofs.arrivals.step_number.Statement.{statement}
 use Rattle.model.proofs.arrivals.step_number.Tie as tie
 

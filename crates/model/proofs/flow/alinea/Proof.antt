@@ -4,8 +4,8 @@ use native.Mathlib.Nat.{mul-le-mul, div-le-self}
 use borrow.Author.Needs.{needs}
 use borrow.Author.Tests.{le-leb, lt-leb}
 use Rattle.laws.proofs.Tests.{fits-mul}
-use Rattle.model.specs.Flow.{alineaRate}
-use Rattle.model.proofs.FlowLaws.{moved-down, moved-none}
+use Rattle.metanet.specs.Flow.{alineaRate}
+use Rattle.metanet.proofs.FlowLaws.{moved-down, moved-none}
 use Rattle.model.proofs.flow.alinea.Statement.{statement}
 use Rattle.model.proofs.flow.alinea.Tie as tie
 

@@ -8,9 +8,9 @@ use borrow.Author.Needs.{needs}
 use Rattle.laws.specs.Sums.{sumOf}
 use Rattle.laws.proofs.Lists.{span}
 use Rattle.laws.proofs.Sums.{Summed, sum-none, sum-more}
-use Rattle.network.specs.Words.{segmentIn}
-use Rattle.model.specs.Words.{netOf}
-use Rattle.model.proofs.Turns.{Turn, inflowIn, exitIn, size-high, turn-none, lengths, passed-high, fresh-ok, turn-end, pass-ok, exit-is, turn-next}
+use Rattle.format.specs.Words.{segmentIn}
+use Rattle.metanet.specs.Words.{netOf}
+use Rattle.metanet.proofs.Turns.{Turn, inflowIn, exitIn, size-high, turn-none, lengths, passed-high, fresh-ok, turn-end, pass-ok, exit-is, turn-next}
 use Rattle.model.proofs.rows.step_rows.Statement.{statement}
 use Rattle.model.proofs.rows.step_rows.Tie as tie
 

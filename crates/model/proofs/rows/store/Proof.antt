@@ -2,7 +2,7 @@ use mathlib.Core.Path.{refl}
 use native.Mathlib.Omega.{arith}
 use lib.ListN.{length-set}
 use borrow.Author.Needs.{needs}
-use Rattle.model.specs.Words.{rowWords}
+use Rattle.metanet.specs.Words.{rowWords}
 use Rattle.model.proofs.rows.store.Statement.{statement}
 use Rattle.model.proofs.rows.store.Tie as tie
 

@@ -3,7 +3,7 @@ use native.Mathlib.Omega.{arith}
 use borrow.Author.Needs.{needs}
 use borrow.Author.Tests.{lt-ltb, le-ltb}
 use Rattle.laws.proofs.Tests.{fits-mul}
-use Rattle.model.specs.Ready.{afterIn}
+use Rattle.metanet.proofs.Ready.{afterIn}
 use Rattle.model.proofs.segment.after_of.Statement.{statement}
 use Rattle.model.proofs.segment.after_of.Tie as tie
 

@@ -6,9 +6,9 @@ use lib.ListN.{length-drop}
 use lib.Seq.{length-take-le}
 use borrow.Author.Needs.{needs}
 use Rattle.laws.proofs.Lists.{rest-is}
-use Rattle.model.specs.Words.{netOf}
-use Rattle.model.specs.Ready.{freshIn}
-use Rattle.model.proofs.SegmentLaws.{SegmentIn, segment-ok, area-ok}
+use Rattle.metanet.specs.Words.{netOf}
+use Rattle.metanet.proofs.Ready.{freshIn}
+use Rattle.metanet.proofs.SegmentLaws.{SegmentIn, segment-ok, area-ok}
 use Rattle.model.proofs.segment.fresh.Statement.{statement}
 use Rattle.model.proofs.segment.fresh.Tie as tie
 

@@ -1,8 +1,8 @@
 use Prim.Native.Nat.{_≤_}
 use native.Mathlib.Omega.{arith}
 use borrow.Author.Needs.{needs}
-use Rattle.model.specs.Step.{made}
-use Rattle.model.proofs.SegmentLaws.{rate-high}
+use Rattle.metanet.specs.Step.{made}
+use Rattle.metanet.proofs.SegmentLaws.{rate-high}
 use Rattle.model.proofs.segment.make.Statement.{statement}
 use Rattle.model.proofs.segment.make.Tie as tie
 

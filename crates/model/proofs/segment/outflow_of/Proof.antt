@@ -1,6 +1,6 @@
 use native.Mathlib.Omega.{arith}
-use Rattle.model.specs.Step.{outflowNow}
-use Rattle.model.proofs.SegmentLaws.{truncating-speed, whole-speed-high, outflow-at-most-count}
+use Rattle.metanet.specs.Step.{outflowNow}
+use Rattle.metanet.proofs.SegmentLaws.{truncating-speed, whole-speed-high, outflow-at-most-count}
 use Rattle.model.proofs.segment.outflow_of.Statement.{statement}
 use Rattle.model.proofs.segment.outflow_of.Tie as tie
 

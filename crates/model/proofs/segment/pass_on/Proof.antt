@@ -1,7 +1,7 @@
 use mathlib.Core.Path.{sym}
 use lib.Seq.{length-take-le}
 use borrow.Author.Needs.{needs}
-use Rattle.model.proofs.SegmentLaws.{exit-le}
+use Rattle.metanet.proofs.SegmentLaws.{exit-le}
 use Rattle.model.proofs.segment.pass_on.Statement.{statement}
 use Rattle.model.proofs.segment.pass_on.Tie as tie
 

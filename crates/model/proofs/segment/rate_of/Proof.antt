@@ -1,6 +1,6 @@
 use borrow.Author.Needs.{needs}
 use borrow.Author.Tests.{eq-eqb, ne-eqb}
-use Rattle.model.specs.Step.{rateNow, rateOf}
+use Rattle.metanet.specs.Step.{rateNow, rateOf}
 use Rattle.model.proofs.segment.rate_of.Statement.{statement}
 use Rattle.model.proofs.segment.rate_of.Tie as tie
 

@@ -1,6 +1,6 @@
 use mathlib.Core.Path.{refl}
 use borrow.Author.Needs.{needs}
-use Rattle.model.specs.Words.{rowIn}
+use Rattle.metanet.specs.Words.{rowIn}
 use Rattle.model.proofs.segment.row_of.Statement.{statement}
 use Rattle.model.proofs.segment.row_of.Tie as tie
 

@@ -3,7 +3,7 @@ use native.Mathlib.Omega.{arith}
 use native.Mathlib.Nat.{mul-le-mul}
 use borrow.Author.Needs.{needs}
 use borrow.Author.Tests.{eq-eqb, ne-eqb}
-use Rattle.model.specs.Step.{signOf}
+use Rattle.metanet.specs.Step.{signOf}
 use Rattle.model.proofs.segment.sign_of.Statement.{statement}
 use Rattle.model.proofs.segment.sign_of.Tie as tie
 

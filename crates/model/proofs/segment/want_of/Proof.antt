@@ -1,5 +1,5 @@
 use borrow.Author.Needs.{needs}
-use Rattle.model.specs.Step.{desiredSpeed}
+use Rattle.metanet.specs.Step.{desiredSpeed}
 use Rattle.model.proofs.segment.want_of.Statement.{statement}
 use Rattle.model.proofs.segment.want_of.Tie as tie
 

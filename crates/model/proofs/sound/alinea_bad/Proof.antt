@@ -1,6 +1,6 @@
 use borrow.Author.Needs.{needs}
 use Rattle.laws.specs.First.{anyOf}
-use Rattle.model.specs.Sound.{alineaBad}
+use Rattle.metanet.specs.Sound.{alineaBad}
 use Rattle.model.proofs.sound.alinea_bad.Statement.{statement}
 use Rattle.model.proofs.sound.alinea_bad.Tie as tie
 

@@ -2,7 +2,7 @@
 use mathlib.Core.Path.{sym, _∙_}
 use borrow.Author.Needs.{needs}
 use Rattle.laws.proofs.First.{row-applies, row-skipped}
-use Rattle.model.proofs.SoundLaws.{vehicles-each, case-rows, case-totals}
+use Rattle.metanet.proofs.SoundLaws.{vehicles-each, case-rows, case-totals}
 use Rattle.model.proofs.sound.case_number.Statement.{statement}
 use Rattle.model.proofs.sound.case_number.Tie as tie
 

@@ -1,5 +1,5 @@
 use borrow.Author.Needs.{needs}
-use Rattle.model.specs.Sound.{fixedBad}
+use Rattle.metanet.specs.Sound.{fixedBad}
 use Rattle.model.proofs.sound.fixed_bad.Statement.{statement}
 use Rattle.model.proofs.sound.fixed_bad.Tie as tie
 

@@ -1,6 +1,6 @@
 use mathlib.Core.Path.{refl}
 use Rattle.laws.specs.First.{anyOf}
-use Rattle.model.specs.Sound.{hasAlinea}
+use Rattle.metanet.specs.Sound.{hasAlinea}
 use Rattle.model.proofs.sound.has_alinea.Statement.{statement}
 use Rattle.model.proofs.sound.has_alinea.Tie as tie
 

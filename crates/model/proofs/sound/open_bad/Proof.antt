@@ -1,5 +1,5 @@
 use borrow.Author.Needs.{needs}
-use Rattle.model.specs.Sound.{openBad}
+use Rattle.metanet.specs.Sound.{openBad}
 use Rattle.model.proofs.sound.open_bad.Statement.{statement}
 use Rattle.model.proofs.sound.open_bad.Tie as tie
 

@@ -1,6 +1,6 @@
 use borrow.Author.Needs.{needs}
 use Rattle.laws.specs.First.{anyOf}
-use Rattle.model.specs.Sound.{rowBad}
+use Rattle.metanet.specs.Sound.{rowBad}
 use Rattle.model.proofs.sound.row_bad.Statement.{statement}
 use Rattle.model.proofs.sound.row_bad.Tie as tie
 

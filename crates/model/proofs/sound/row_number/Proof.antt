@@ -5,13 +5,13 @@ use lib.Seq.{length-take-le}
 use borrow.Author.Needs.{needs}
 use Rattle.laws.proofs.First.{row-applies, row-skipped}
 use Rattle.laws.proofs.Lists.{rest-is}
-use Rattle.network.specs.Words.{headIn, entryIn, segmentIn}
-use Rattle.model.specs.Case.{rowOf}
-use Rattle.model.specs.Step.{freeSpeed, merges}
-use Rattle.model.specs.Words.{netOf, rowsIn}
-use Rattle.model.specs.Sound.{rowBad, rowNumber}
-use Rattle.model.proofs.SegmentLaws.{SegmentIn, segment-ok}
-use Rattle.model.proofs.SoundLaws.{row-read}
+use Rattle.format.specs.Words.{headIn, entryIn, segmentIn}
+use Rattle.metanet.specs.Case.{rowOf}
+use Rattle.metanet.specs.Step.{freeSpeed, merges}
+use Rattle.metanet.specs.Words.{netOf, rowsIn}
+use Rattle.metanet.specs.Sound.{rowBad, rowNumber}
+use Rattle.metanet.proofs.SegmentLaws.{SegmentIn, segment-ok}
+use Rattle.metanet.proofs.SoundLaws.{row-read}
 use Rattle.model.proofs.sound.row_number.Statement.{statement}
 use Rattle.model.proofs.sound.row_number.Tie as tie
 

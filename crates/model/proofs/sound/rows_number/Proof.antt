@@ -3,9 +3,9 @@ use Prim.Native.Nat.{_-_}
 use native.Mathlib.Omega.{arith}
 use borrow.Author.Needs.{needs}
 use Rattle.laws.proofs.First.{Passed, passed-none, passed-found, passed-more, passed-end}
-use Rattle.network.specs.Words.{headIn, entryIn, segmentIn}
-use Rattle.model.specs.Words.{netOf, rowsIn}
-use Rattle.model.specs.Sound.{rowNumber}
+use Rattle.format.specs.Words.{headIn, entryIn, segmentIn}
+use Rattle.metanet.specs.Words.{netOf, rowsIn}
+use Rattle.metanet.specs.Sound.{rowNumber}
 use Rattle.model.proofs.sound.rows_number.Statement.{statement}
 use Rattle.model.proofs.sound.rows_number.Tie as tie
 

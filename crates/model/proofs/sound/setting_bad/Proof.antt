@@ -1,6 +1,6 @@
 use borrow.Author.Needs.{needs}
 use borrow.Author.Tests.{eq-eqb, ne-eqb}
-use Rattle.model.specs.Sound.{settingBad}
+use Rattle.metanet.specs.Sound.{settingBad}
 use Rattle.model.proofs.sound.setting_bad.Statement.{statement}
 use Rattle.model.proofs.sound.setting_bad.Tie as tie
 

@@ -1,6 +1,6 @@
 use borrow.Author.Needs.{needs}
 use borrow.Author.Tests.{eq-eqb, ne-eqb}
-use Rattle.model.specs.Sound.{signBad}
+use Rattle.metanet.specs.Sound.{signBad}
 use Rattle.model.proofs.sound.sign_bad.Statement.{statement}
 use Rattle.model.proofs.sound.sign_bad.Tie as tie
 

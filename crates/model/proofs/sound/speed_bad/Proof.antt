@@ -1,5 +1,5 @@
 use borrow.Author.Needs.{needs}
-use Rattle.model.specs.Sound.{speedBad}
+use Rattle.metanet.specs.Sound.{speedBad}
 use Rattle.model.proofs.sound.speed_bad.Statement.{statement}
 use Rattle.model.proofs.sound.speed_bad.Tie as tie
 

@@ -1,6 +1,6 @@
 use mathlib.Core.Path.{refl}
 use Rattle.laws.specs.First.{anyOf}
-use Rattle.model.specs.Sound.{totalsBad}
+use Rattle.metanet.specs.Sound.{totalsBad}
 use Rattle.model.proofs.sound.totals_bad.Statement.{statement}
 use Rattle.model.proofs.sound.totals_bad.Tie as tie
 

@@ -3,7 +3,7 @@ use native.Mathlib.Omega.{arith}
 use native.Mathlib.Nat.{mul-le-mul, mod-lt}
 use borrow.Author.Needs.{needs}
 use borrow.Author.Tests.{le-leb, lt-leb}
-use Rattle.network.proofs.Rows.{entry-high}
+use Rattle.format.proofs.Rows.{entry-high}
 use Rattle.model.proofs.speed.curve_speed.Statement.{statement}
 use Rattle.model.proofs.speed.curve_speed.Tie as tie
 

@@ -1,5 +1,5 @@
 use borrow.Author.Needs.{needs}
-use Rattle.model.specs.Speed.{keep}
+use Rattle.metanet.specs.Speed.{keep}
 use Rattle.model.proofs.speed.kept.Statement.{statement}
 use Rattle.model.proofs.speed.kept.Tie as tie
 

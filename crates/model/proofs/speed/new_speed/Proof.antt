@@ -1,5 +1,5 @@
 use borrow.Author.Needs.{needs}
-use Rattle.model.specs.Speed.{newSpeed}
+use Rattle.metanet.specs.Speed.{newSpeed}
 use Rattle.model.proofs.speed.new_speed.Statement.{statement}
 use Rattle.model.proofs.speed.new_speed.Tie as tie
 

@@ -4,7 +4,7 @@ use mathlib.Core.Path.{refl}
 use native.Mathlib.Omega.{arith}
 use borrow.Author.Needs.{needs}
 use Rattle.laws.proofs.Sums.{Summed, sum-none, sum-more, sum-all}
-use Rattle.model.specs.Ready.{vehiclesAt}
+use Rattle.metanet.proofs.Ready.{vehiclesAt}
 use Rattle.model.proofs.totals.vehicles_in.Statement.{statement}
 use Rattle.model.proofs.totals.vehicles_in.Tie as tie
 

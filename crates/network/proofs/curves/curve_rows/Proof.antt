@@ -2,7 +2,7 @@
 use Prim.Native.Nat.{_-_}
 use borrow.Author.Needs.{needs}
 use Rattle.laws.proofs.First.{Passed, passed-none, passed-found, passed-more, passed-end}
-use Rattle.network.specs.File.{curveIn}
+use Rattle.format.specs.File.{curveIn}
 use Rattle.network.proofs.curves.curve_rows.Statement.{statement}
 use Rattle.network.proofs.curves.curve_rows.Tie as tie
 

@@ -1,6 +1,6 @@
 use borrow.Author.Needs.{needs}
 use Rattle.laws.specs.First.{anyOf}
-use Rattle.network.specs.Network.{headBad}
+use Rattle.format.specs.Network.{headBad}
 use Rattle.network.proofs.heads.head_bad.Statement.{statement}
 use Rattle.network.proofs.heads.head_bad.Tie as tie
 

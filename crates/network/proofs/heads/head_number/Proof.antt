@@ -10,10 +10,10 @@ use Rattle.laws.specs.First.{row}
 use Rattle.laws.specs.BigEndian.{u16At}
 use Rattle.laws.proofs.First.{row-applies, row-skipped}
 use Rattle.laws.proofs.Tests.{or-left}
-use Rattle.network.specs.Network.{headBad}
-use Rattle.network.specs.File.{headNumber, headPadding, hasMark, headOf, fileSize}
-use Rattle.network.specs.Accepted.{HeadWithin}
-use Rattle.network.proofs.Rows.{head-within}
+use Rattle.format.specs.Network.{headBad}
+use Rattle.format.specs.File.{headNumber, headPadding, hasMark, headOf, fileSize}
+use Rattle.format.proofs.Accepted.{HeadWithin}
+use Rattle.format.proofs.Rows.{head-within}
 use Rattle.network.proofs.heads.head_number.Statement.{statement}
 use Rattle.network.proofs.heads.head_number.Tie as tie
 

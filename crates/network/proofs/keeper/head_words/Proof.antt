@@ -1,4 +1,4 @@
-use Rattle.network.specs.Words.{headWords}
+use Rattle.format.specs.Words.{headWords}
 use Rattle.network.proofs.keeper.head_words.Statement.{statement}
 use Rattle.network.proofs.keeper.head_words.Tie as tie
 

@@ -1,6 +1,6 @@
 use denote.Ref.{now}
 use borrow.Author.Needs.{needs}
-use Rattle.network.proofs.KeepCall.{kept-by}
+use Rattle.format.proofs.KeepCall.{kept-by}
 use Rattle.network.proofs.keeper.keep_network.Statement.{statement}
 use Rattle.network.proofs.keeper.keep_network.Tie as tie
 

@@ -1,7 +1,7 @@
 use mathlib.Core.Path.{_∙_}
 use native.Mathlib.Omega.{arith}
 use Rattle.arrays.proofs.Over.{over-fits}
-use Rattle.network.specs.Words.{headWords}
+use Rattle.format.specs.Words.{headWords}
 use borrow.Author.Needs.{needs}
 use Rattle.network.proofs.keeper.put_head.Statement.{statement}
 use Rattle.network.proofs.keeper.put_head.Tie as tie

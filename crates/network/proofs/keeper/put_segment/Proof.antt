@@ -1,7 +1,7 @@
 use mathlib.Core.Path.{_∙_}
 use native.Mathlib.Omega.{arith}
 use Rattle.arrays.proofs.Over.{over-fits}
-use Rattle.network.specs.Words.{segmentWords}
+use Rattle.format.specs.Words.{segmentWords}
 use borrow.Author.Needs.{needs}
 use Rattle.network.proofs.keeper.put_segment.Statement.{statement}
 use Rattle.network.proofs.keeper.put_segment.Tie as tie

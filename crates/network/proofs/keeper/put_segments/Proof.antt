@@ -7,9 +7,9 @@ use denote.Ref.{now}
 use borrow.Author.Needs.{needs}
 use Rattle.laws.proofs.Lists.{span}
 use Rattle.laws.proofs.Puts.{Filled, filled-none, filled-more, filled-length, filled-all}
-use Rattle.network.specs.File.{segmentAt}
-use Rattle.network.specs.Words.{segmentWords}
-use Rattle.network.proofs.Kept.{length-segment-words}
+use Rattle.format.specs.File.{segmentAt}
+use Rattle.format.specs.Words.{segmentWords}
+use Rattle.format.proofs.Kept.{length-segment-words}
 use Rattle.network.proofs.keeper.put_segments.Statement.{statement}
 use Rattle.network.proofs.keeper.put_segments.Tie as tie
 

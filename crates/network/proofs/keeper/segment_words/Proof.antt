@@ -1,4 +1,4 @@
-use Rattle.network.specs.Words.{segmentWords}
+use Rattle.format.specs.Words.{segmentWords}
 use Rattle.network.proofs.keeper.segment_words.Statement.{statement}
 use Rattle.network.proofs.keeper.segment_words.Tie as tie
 

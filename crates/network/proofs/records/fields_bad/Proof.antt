@@ -1,5 +1,5 @@
 use Rattle.laws.specs.First.{anyOf}
-use Rattle.network.specs.Network.{segmentBad}
+use Rattle.format.specs.Network.{segmentBad}
 use borrow.Author.Needs.{needs}
 use Rattle.network.proofs.records.fields_bad.Statement.{statement}
 use Rattle.network.proofs.records.fields_bad.Tie as tie

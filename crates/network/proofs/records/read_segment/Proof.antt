@@ -2,7 +2,7 @@
 use mathlib.Core.Path.{_∙_}
 use denote.Ref.{now}
 use borrow.Author.Needs.{needs}
-use Rattle.network.proofs.File.{segment-lent}
+use Rattle.format.proofs.File.{segment-lent}
 use Rattle.network.proofs.records.read_segment.Statement.{statement}
 use Rattle.network.proofs.records.read_segment.Tie as tie
 

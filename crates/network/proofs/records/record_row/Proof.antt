@@ -7,11 +7,11 @@ use Prim.Native.Nat.{ℕ}
 use Rattle.laws.specs.Lists.{part}
 use Rattle.laws.proofs.Tests.{or-left}
 use Rattle.laws.proofs.Lists.{span}
-use Rattle.network.specs.Network.{segmentBad, tooFast}
-use Rattle.network.specs.File.{recordNumber, recordPadding, recordStart, segmentAt, entryAt, curveStart}
-use Rattle.network.specs.Accepted.{SegmentWithin}
-use Rattle.network.proofs.Rows.{segment-within, field-refused, speed-refused, speed-passed}
-use Rattle.network.proofs.File.{segment-lent, padding-part}
+use Rattle.format.specs.Network.{segmentBad, tooFast}
+use Rattle.format.specs.File.{recordNumber, recordPadding, recordStart, segmentAt, entryAt, curveStart}
+use Rattle.format.proofs.Accepted.{SegmentWithin}
+use Rattle.format.proofs.Rows.{segment-within, field-refused, speed-refused, speed-passed}
+use Rattle.format.proofs.File.{segment-lent, padding-part}
 use borrow.Author.Needs.{needs}
 use Rattle.network.proofs.records.record_row.Statement.{statement}
 use Rattle.network.proofs.records.record_row.Tie as tie

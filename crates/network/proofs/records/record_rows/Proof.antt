@@ -3,7 +3,7 @@ use Prim.Native.Nat.{_-_}
 use native.Mathlib.Omega.{arith}
 use borrow.Author.Needs.{needs}
 use Rattle.laws.proofs.First.{Passed, passed-none, passed-found, passed-more, passed-end}
-use Rattle.network.specs.File.{recordNumber}
+use Rattle.format.specs.File.{recordNumber}
 use Rattle.network.proofs.records.record_rows.Statement.{statement}
 use Rattle.network.proofs.records.record_rows.Tie as tie
 

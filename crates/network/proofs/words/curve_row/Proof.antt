@@ -3,8 +3,8 @@ use Prim.Native.Nat.{ℕ, _-_}
 use borrow.Author.Needs.{needs}
 use mathlib.Core.Path.{_≡_, sym, ap, _∙_}
 use Rattle.laws.specs.First.{outside}
-use Rattle.network.specs.Words.{entryIn}
-use Rattle.network.proofs.Rows.{Falling, curve-refused, curve-begun, curve-rises, curve-falls, curve-passes}
+use Rattle.format.specs.Words.{entryIn}
+use Rattle.format.proofs.Rows.{Falling, curve-refused, curve-begun, curve-rises, curve-falls, curve-passes}
 use Rattle.network.proofs.words.curve_row.Statement.{statement}
 use Rattle.network.proofs.words.curve_row.Tie as tie
 

@@ -2,8 +2,8 @@
 use Prim.Native.Nat.{_-_}
 use borrow.Author.Needs.{needs}
 use Rattle.laws.proofs.First.{Passed, passed-none, passed-found, passed-more, passed-end}
-use Rattle.network.specs.Network.{curveNumber}
-use Rattle.network.specs.Words.{entryIn}
+use Rattle.format.specs.Network.{curveNumber}
+use Rattle.format.specs.Words.{entryIn}
 use Rattle.network.proofs.words.curve_rows.Statement.{statement}
 use Rattle.network.proofs.words.curve_rows.Tie as tie
 

@@ -1,6 +1,6 @@
 -- The nine entries are read, and their tests are row 6's.
 use borrow.Author.Needs.{needs}
-use Rattle.network.proofs.Rows.{eight-read}
+use Rattle.format.proofs.Rows.{eight-read}
 use Rattle.network.proofs.words.eight_row.Statement.{statement}
 use Rattle.network.proofs.words.eight_row.Tie as tie
 

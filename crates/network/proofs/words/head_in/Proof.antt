@@ -1,5 +1,5 @@
 use borrow.Author.Needs.{needs}
-use Rattle.network.specs.Words.{headIn}
+use Rattle.format.specs.Words.{headIn}
 use Rattle.network.proofs.words.head_in.Statement.{statement}
 use Rattle.network.proofs.words.head_in.Tie as tie
 

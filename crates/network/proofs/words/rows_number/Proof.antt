@@ -5,10 +5,10 @@ use native.Mathlib.Nat.{le-refl}
 use denote.Ref.{now}
 use Rattle.laws.specs.First.{firstOf}
 use Rattle.laws.proofs.First.{firstOf-zero}
-use Rattle.network.specs.Network.{headBad, curveNumber}
-use Rattle.network.specs.Words.{headIn, entryIn}
-use Rattle.network.specs.Accepted.{HeadWithin, CurvesKept}
-use Rattle.network.proofs.Rows.{head-within, curve-within, rows-head, rows-curves, rows-segments}
+use Rattle.format.specs.Network.{headBad, curveNumber}
+use Rattle.format.specs.Words.{headIn, entryIn}
+use Rattle.format.proofs.Accepted.{HeadWithin, CurvesKept}
+use Rattle.format.proofs.Rows.{head-within, curve-within, rows-head, rows-curves, rows-segments}
 use borrow.Author.Needs.{needs}
 use Rattle.network.proofs.words.rows_number.Statement.{statement}
 use Rattle.network.proofs.words.rows_number.Tie as tie

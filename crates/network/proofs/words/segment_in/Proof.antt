@@ -1,5 +1,5 @@
 use borrow.Author.Needs.{needs}
-use Rattle.network.specs.Words.{segmentIn}
+use Rattle.format.specs.Words.{segmentIn}
 use Rattle.network.proofs.words.segment_in.Statement.{statement}
 use Rattle.network.proofs.words.segment_in.Tie as tie
 

@@ -2,10 +2,10 @@
 use mathlib.Core.Path.{_≡_, sym, _∙_}
 use native.Mathlib.Omega.{arith}
 use denote.Ref.{now}
-use Rattle.network.specs.Network.{segmentBad, tooFast, segmentNumber}
-use Rattle.network.specs.Words.{entryIn, segmentIn}
-use Rattle.network.specs.Accepted.{SegmentWithin}
-use Rattle.network.proofs.Rows.{segment-within, field-refused, speed-refused, speed-passed}
+use Rattle.format.specs.Network.{segmentBad, tooFast, segmentNumber}
+use Rattle.format.specs.Words.{entryIn, segmentIn}
+use Rattle.format.proofs.Accepted.{SegmentWithin}
+use Rattle.format.proofs.Rows.{segment-within, field-refused, speed-refused, speed-passed}
 use borrow.Author.Needs.{needs}
 use Rattle.network.proofs.words.segment_row.Statement.{statement}
 use Rattle.network.proofs.words.segment_row.Tie as tie

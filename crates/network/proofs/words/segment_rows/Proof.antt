@@ -3,8 +3,8 @@ use Prim.Native.Nat.{_-_}
 use native.Mathlib.Omega.{arith}
 use borrow.Author.Needs.{needs}
 use Rattle.laws.proofs.First.{Passed, passed-none, passed-found, passed-more, passed-end}
-use Rattle.network.specs.Network.{segmentNumber}
-use Rattle.network.specs.Words.{entryIn, segmentIn}
+use Rattle.format.specs.Network.{segmentNumber}
+use Rattle.format.specs.Words.{entryIn, segmentIn}
 use Rattle.network.proofs.words.segment_rows.Statement.{statement}
 use Rattle.network.proofs.words.segment_rows.Tie as tie
 

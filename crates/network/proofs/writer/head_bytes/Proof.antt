@@ -1,4 +1,4 @@
-use Rattle.network.specs.Written.{headBytes}
+use Rattle.format.specs.Written.{headBytes}
 use borrow.Author.Needs.{needs}
 use Rattle.network.proofs.writer.head_bytes.Statement.{statement}
 use Rattle.network.proofs.writer.head_bytes.Tie as tie

@@ -8,7 +8,7 @@ use borrow.Author.Needs.{needs}
 use Rattle.laws.proofs.BigEndian.{length-u32}
 use Rattle.laws.proofs.Lists.{span}
 use Rattle.laws.proofs.Puts.{Filled, filled-none, filled-more, filled-length, filled-all}
-use Rattle.network.proofs.Writing.{entryBytesIn}
+use Rattle.format.proofs.Writing.{entryBytesIn}
 use Rattle.network.proofs.writer.put_entries.Statement.{statement}
 use Rattle.network.proofs.writer.put_entries.Tie as tie
 

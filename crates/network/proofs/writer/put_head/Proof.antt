@@ -1,5 +1,5 @@
 use mathlib.Core.Path.{_∙_}
-use Rattle.network.specs.Written.{headBytes}
+use Rattle.format.specs.Written.{headBytes}
 use borrow.Author.Needs.{needs}
 use Rattle.network.proofs.writer.put_head.Statement.{statement}
 use Rattle.network.proofs.writer.put_head.Tie as tie

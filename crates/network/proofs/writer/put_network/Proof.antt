@@ -1,5 +1,5 @@
 use borrow.Author.Needs.{needs}
-use Rattle.network.proofs.Writing.{written-by}
+use Rattle.format.proofs.Writing.{written-by}
 use Rattle.network.proofs.writer.put_network.Statement.{statement}
 use Rattle.network.proofs.writer.put_network.Tie as tie
 

@@ -1,5 +1,5 @@
 use mathlib.Core.Path.{_∙_}
-use Rattle.network.specs.Written.{segmentBytes}
+use Rattle.format.specs.Written.{segmentBytes}
 use borrow.Author.Needs.{needs}
 use Rattle.network.proofs.writer.put_segment.Statement.{statement}
 use Rattle.network.proofs.writer.put_segment.Tie as tie

@@ -7,7 +7,7 @@ use denote.Ref.{now}
 use borrow.Author.Needs.{needs}
 use Rattle.laws.proofs.Lists.{span}
 use Rattle.laws.proofs.Puts.{Filled, filled-none, filled-more, filled-length, filled-all}
-use Rattle.network.proofs.Writing.{segmentBytesIn, length-segment-bytes}
+use Rattle.format.proofs.Writing.{segmentBytesIn, length-segment-bytes}
 use Rattle.network.proofs.writer.put_segments.Statement.{statement}
 use Rattle.network.proofs.writer.put_segments.Tie as tie
 

@@ -1,4 +1,4 @@
-use Rattle.network.specs.Written.{segmentBytes}
+use Rattle.format.specs.Written.{segmentBytes}
 use borrow.Author.Needs.{needs}
 use Rattle.network.proofs.writer.segment_bytes.Statement.{statement}
 use Rattle.network.proofs.writer.segment_bytes.Tie as tie

@@ -1,7 +1,7 @@
 use mathlib.Core.Path.{sym}
 use lib.ListN.{List·getD-eq-default}
 use borrow.Author.Needs.{needs}
-use Rattle.places.specs.Place.{headFields}
+use Rattle.format.specs.Place.{headFields}
 use Rattle.places.proofs.rules.head_field.Statement.{statement}
 use Rattle.places.proofs.rules.head_field.Tie as tie
 

@@ -1,7 +1,7 @@
 use mathlib.Core.Path.{sym}
 use lib.ListN.{List·getD-eq-default}
 use borrow.Author.Needs.{needs}
-use Rattle.places.specs.Place.{recordFields}
+use Rattle.format.specs.Place.{recordFields}
 use Rattle.places.proofs.rules.record_field.Statement.{statement}
 use Rattle.places.proofs.rules.record_field.Tie as tie
 

@@ -4,8 +4,8 @@ use mathlib.Core.Path.{sym, _∙_}
 use native.Mathlib.Omega.{arith}
 use borrow.Author.Needs.{needs}
 use Rattle.laws.proofs.Search.{Searching, search-begun, search-found, search-passed, search-end}
-use Rattle.network.specs.File.{entryOn}
-use Rattle.places.specs.Place.{entryBad, badEntry}
+use Rattle.format.specs.File.{entryOn}
+use Rattle.format.specs.Place.{entryBad, badEntry}
 use Rattle.places.proofs.search.bad_entry.Statement.{statement}
 use Rattle.places.proofs.search.bad_entry.Tie as tie
 

@@ -4,7 +4,7 @@ use mathlib.Core.Path.{sym, _∙_}
 use native.Mathlib.Omega.{arith}
 use borrow.Author.Needs.{needs}
 use Rattle.laws.proofs.Search.{Searching, search-begun, search-found, search-passed, search-end}
-use Rattle.places.specs.Place.{recordBad, badRecord}
+use Rattle.format.specs.Place.{recordBad, badRecord}
 use Rattle.places.proofs.search.bad_record.Statement.{statement}
 use Rattle.places.proofs.search.bad_record.Tie as tie
 

@@ -4,7 +4,7 @@ use mathlib.Core.Path.{_∙_}
 use borrow.Author.Needs.{needs}
 use borrow.Author.Tests.{lt-ltb, le-ltb}
 use Rattle.laws.proofs.Search.{any-held}
-use Rattle.places.specs.Place.{recordRules, recordBad}
+use Rattle.format.specs.Place.{recordRules, recordBad}
 use Rattle.places.proofs.search.record_bad.Statement.{statement}
 use Rattle.places.proofs.search.record_bad.Tie as tie
 

@@ -1,11 +1,11 @@
 use mathlib.Core.Path.{_≡_, sym, ap, _∙_, subst}
 use native.Mathlib.Omega.{arith}
 use borrow.Author.Needs.{needs}
-use Rattle.network.specs.declared.Segment.{Segment}
-use Rattle.network.specs.File.{headOf, segmentOn, entryOn}
-use Rattle.network.specs.Accepted.{SegmentWithin}
-use Rattle.network.proofs.File.{network-within}
-use Rattle.study.specs.Start.{startSegmentNumber}
+use Rattle.format.specs.declared.Segment.{Segment}
+use Rattle.format.specs.File.{headOf, segmentOn, entryOn}
+use Rattle.format.proofs.Accepted.{SegmentWithin}
+use Rattle.format.proofs.File.{network-within}
+use Rattle.metanet.specs.Start.{startSegmentNumber}
 use Rattle.study.proofs.Starting.{segment-on, size-high}
 use Rattle.study.proofs.begin.segment_number.Statement.{statement}
 use Rattle.study.proofs.begin.segment_number.Tie as tie

@@ -4,8 +4,8 @@ use mathlib.Core.Path.{_≡_, sym, ap, _∙_}
 use native.Mathlib.Omega.{arith}
 use borrow.Author.Needs.{needs}
 use Rattle.laws.specs.First.{anyOf, orFrom}
-use Rattle.network.specs.declared.Head.{Head}
-use Rattle.network.specs.File.{headOf, fileNumber}
+use Rattle.format.specs.declared.Head.{Head}
+use Rattle.format.specs.File.{headOf, fileNumber}
 use Rattle.study.specs.Ready.{Listed}
 use Rattle.study.proofs.Starting.{size-high, lists-even, file-refused, arrays-short, lists-uneven, segments-judged}
 use Rattle.study.proofs.begin.start_number.Statement.{statement}

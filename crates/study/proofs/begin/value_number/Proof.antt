@@ -3,7 +3,7 @@ use native.Mathlib.Nat.{mul-le-mul}
 use Rattle.laws.specs.First.{anyOf, orFrom}
 use Rattle.laws.proofs.First.{row-applies, row-skipped}
 use Rattle.laws.proofs.Tests.{fits-mul}
-use Rattle.study.specs.Start.{startSegmentNumber}
+use Rattle.metanet.specs.Start.{startSegmentNumber}
 use Rattle.study.proofs.begin.value_number.Statement.{statement}
 use Rattle.study.proofs.begin.value_number.Tie as tie
 

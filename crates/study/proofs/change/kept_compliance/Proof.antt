@@ -2,7 +2,7 @@ use mathlib.Core.Path.{sym, ap, _∙_}
 use mir.Syntax.{w64}
 use mir.ValLaws.{toZ-ofZ}
 use borrow.Author.Needs.{needs}
-use Rattle.study.specs.Change.{raised}
+use Rattle.metanet.specs.Change.{raised}
 use Rattle.study.proofs.Settings.{shown-compliance}
 use Rattle.study.proofs.change.kept_compliance.Statement.{statement}
 use Rattle.study.proofs.change.kept_compliance.Tie as tie

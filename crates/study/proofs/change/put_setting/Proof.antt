@@ -1,8 +1,8 @@
 use mathlib.Core.Path.{sym, ap, _∙_}
 use denote.Ref.{now}
 use borrow.Author.Needs.{needs}
-use Rattle.study.specs.declared.Setting.{Setting}
-use Rattle.study.specs.Perform.{meteredWords}
+use Rattle.metanet.specs.declared.Setting.{Setting}
+use Rattle.book.specs.Perform.{meteredWords}
 use Rattle.study.proofs.change.put_setting.Statement.{statement}
 use Rattle.study.proofs.change.put_setting.Tie as tie
 

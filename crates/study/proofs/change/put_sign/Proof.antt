@@ -1,7 +1,7 @@
 use mir.Syntax.{w64}
 use mir.ValLaws.{toZ-ofZ}
 use borrow.Author.Needs.{needs}
-use Rattle.study.specs.Perform.{signedWords}
+use Rattle.book.specs.Perform.{signedWords}
 use Rattle.study.proofs.change.put_sign.Statement.{statement}
 use Rattle.study.proofs.change.put_sign.Tie as tie
 

@@ -7,7 +7,7 @@ use lib.Signed.{nonNeg}
 use mir.Syntax.{w64}
 use mir.Val.{Fits, SFits, toZ, ofZ}
 use mir.ValLaws.{toZ-ofZ}
-use Rattle.study.specs.Change.{raised}
+use Rattle.metanet.specs.Change.{raised}
 use Rattle.study.proofs.Settings.{raised-is, raised-high}
 use Rattle.study.proofs.change.raised.Statement.{statement}
 use Rattle.study.proofs.change.raised.Tie as tie

@@ -2,7 +2,7 @@ use native.Mathlib.Nat.{mul-le-mul-right}
 use native.Mathlib.Omega.{arith}
 use borrow.Author.Needs.{needs}
 use Rattle.laws.proofs.Tests.{fits-mul}
-use Rattle.study.specs.Perform.{copiedSpeeds}
+use Rattle.book.specs.Perform.{copiedSpeeds}
 use Rattle.study.proofs.copy.copy_speeds.Statement.{statement}
 use Rattle.study.proofs.copy.copy_speeds.Tie as tie
 

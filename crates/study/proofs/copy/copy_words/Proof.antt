@@ -2,7 +2,7 @@ use Prim.Native.Nat.{ℕ, _+_, _*_, _≤_}
 use native.Mathlib.Nat.{mul-le-mul, mul-le-mul-right}
 use native.Mathlib.Omega.{arith}
 use borrow.Author.Needs.{needs}
-use Rattle.study.specs.Perform.{copiedWords}
+use Rattle.book.specs.Perform.{copiedWords}
 use Rattle.study.proofs.copy.copy_words.Statement.{statement}
 use Rattle.study.proofs.copy.copy_words.Tie as tie
 

@@ -1,6 +1,6 @@
 use borrow.Author.Needs.{needs}
-use Rattle.model.specs.Step.{rateOf}
-use Rattle.model.specs.Words.{rowIn}
+use Rattle.metanet.specs.Step.{rateOf}
+use Rattle.metanet.specs.Words.{rowIn}
 use Rattle.study.specs.Figures.{rowFigures}
 use Rattle.study.proofs.figures.row_figures.Statement.{statement}
 use Rattle.study.proofs.figures.row_figures.Tie as tie

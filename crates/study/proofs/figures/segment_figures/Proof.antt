@@ -7,8 +7,8 @@ use lib.ListN.{length, length-drop}
 use lib.Seq.{length-take-le}
 use borrow.Author.Needs.{needs}
 use Rattle.laws.proofs.Lists.{rest-is}
-use Rattle.study.specs.Arrangement.{caseWord, caseSpeed}
-use Rattle.study.proofs.Judging.{size-high, placed}
+use Rattle.book.specs.Arrangement.{caseWord, caseSpeed}
+use Rattle.book.proofs.Judging.{size-high, placed}
 use Rattle.study.proofs.Reporting.{showable}
 use Rattle.study.proofs.figures.segment_figures.Statement.{statement}
 use Rattle.study.proofs.figures.segment_figures.Tie as tie

@@ -1,7 +1,7 @@
 -- The run count refuses, or the live case, or a slot, or nothing does.
 use mathlib.Core.Path.{sym, _∙_}
 use borrow.Author.Needs.{needs}
-use Rattle.study.proofs.Judging.{runs-over, live-refused, slots-judged}
+use Rattle.book.proofs.Judging.{runs-over, live-refused, slots-judged}
 use Rattle.study.proofs.judge.cases_number.Statement.{statement}
 use Rattle.study.proofs.judge.cases_number.Tie as tie
 

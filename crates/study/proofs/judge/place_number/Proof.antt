@@ -3,9 +3,9 @@ use mathlib.Core.Path.{ap, _∙_}
 use native.Mathlib.Nat.{mul-le-mul}
 use native.Mathlib.Omega.{arith}
 use borrow.Author.Needs.{needs}
-use Rattle.model.specs.Sound.{caseNumberIn}
-use Rattle.study.specs.Arrangement.{caseWord, caseSpeed}
-use Rattle.study.proofs.Judging.{size-high, placed}
+use Rattle.metanet.specs.Sound.{caseNumberIn}
+use Rattle.book.specs.Arrangement.{caseWord, caseSpeed}
+use Rattle.book.proofs.Judging.{size-high, placed}
 use Rattle.study.proofs.judge.place_number.Statement.{statement}
 use Rattle.study.proofs.judge.place_number.Tie as tie
 

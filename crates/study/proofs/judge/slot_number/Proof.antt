@@ -2,7 +2,7 @@ use mathlib.Core.Path.{sym, _∙_}
 use borrow.Author.Needs.{needs}
 use borrow.Author.Tests.{lt-ltb, le-ltb, eq-eqb, ne-eqb}
 use Rattle.laws.proofs.First.{row-applies, row-skipped}
-use Rattle.study.specs.Sound.{slotNumber}
+use Rattle.book.specs.Sound.{slotNumber}
 use Rattle.study.proofs.judge.slot_number.Statement.{statement}
 use Rattle.study.proofs.judge.slot_number.Tie as tie
 

@@ -3,7 +3,7 @@ use Prim.Native.Nat.{_+_, _-_}
 use native.Mathlib.Omega.{arith}
 use borrow.Author.Needs.{needs}
 use Rattle.laws.proofs.First.{Passed, passed-none, passed-found, passed-more, passed-end}
-use Rattle.study.specs.Sound.{slotNumber}
+use Rattle.book.specs.Sound.{slotNumber}
 use Rattle.study.proofs.judge.slots_number.Statement.{statement}
 use Rattle.study.proofs.judge.slots_number.Tie as tie
 

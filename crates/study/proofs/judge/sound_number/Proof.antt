@@ -8,13 +8,13 @@ use lib.Seq.{length-take-le}
 use borrow.Author.Needs.{needs}
 use borrow.Author.Tests.{ltb-false}
 use Rattle.laws.proofs.Tests.{or-left, or-right}
-use Rattle.network.specs.declared.Head.{Head}
-use Rattle.network.specs.Words.{keptNumber}
-use Rattle.network.proofs.Keeping.{kept-within}
-use Rattle.model.specs.Words.{netOf}
-use Rattle.study.specs.Arrangement.{wordsFor, speedsFor, sizeAt}
-use Rattle.study.specs.Ready.{Laid}
-use Rattle.study.proofs.Judging.{net-refused, words-short, lengths-refused, cases-judged}
+use Rattle.format.specs.declared.Head.{Head}
+use Rattle.format.specs.Words.{keptNumber}
+use Rattle.format.proofs.Keeping.{kept-within}
+use Rattle.metanet.specs.Words.{netOf}
+use Rattle.book.specs.Arrangement.{wordsFor, speedsFor, sizeAt}
+use Rattle.book.proofs.Laid.{Laid}
+use Rattle.book.proofs.Judging.{net-refused, words-short, lengths-refused, cases-judged}
 use Rattle.study.proofs.judge.sound_number.Statement.{statement}
 use Rattle.study.proofs.judge.sound_number.Tie as tie
 

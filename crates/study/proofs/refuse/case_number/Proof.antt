@@ -4,10 +4,10 @@ use mathlib.Core.Bool.{true}
 use native.Mathlib.Omega.{arith}
 use borrow.Author.Needs.{needs}
 use borrow.Author.Tests.{not-true, not-false}
-use Rattle.study.specs.Calls.{report}
-use Rattle.study.specs.Sound.{sound}
-use Rattle.study.proofs.Sounds.{laid}
-use Rattle.study.proofs.Performing.{unsound}
+use Rattle.book.specs.Calls.{report}
+use Rattle.book.specs.Sound.{sound}
+use Rattle.book.proofs.Sounds.{laid}
+use Rattle.book.proofs.Performing.{unsound}
 use Rattle.study.proofs.Reporting.{case-none, case-live, case-filled, case-empty}
 use Rattle.study.proofs.refuse.case_number.Statement.{statement}
 use Rattle.study.proofs.refuse.case_number.Tie as tie

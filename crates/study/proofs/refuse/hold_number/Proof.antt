@@ -5,10 +5,10 @@ use native.Mathlib.Omega.{arith}
 use borrow.Author.Needs.{needs}
 use borrow.Author.Tests.{not-true, not-false}
 use Rattle.laws.proofs.Tests.{inside-high}
-use Rattle.study.specs.Sound.{sound}
-use Rattle.study.specs.Calls.{hold}
-use Rattle.study.proofs.Sounds.{laid}
-use Rattle.study.proofs.Performing.{unsound}
+use Rattle.book.specs.Sound.{sound}
+use Rattle.book.specs.Calls.{hold}
+use Rattle.book.proofs.Sounds.{laid}
+use Rattle.book.proofs.Performing.{unsound}
 use Rattle.study.proofs.Slots.{hold-missing, hold-filled, hold-free}
 use Rattle.study.proofs.refuse.hold_number.Statement.{statement}
 use Rattle.study.proofs.refuse.hold_number.Tie as tie

@@ -5,9 +5,9 @@ use native.Mathlib.Omega.{arith}
 use borrow.Author.Needs.{needs}
 use borrow.Author.Tests.{not-true, not-false}
 use Rattle.laws.specs.First.{outside}
-use Rattle.study.specs.Arrangement.{sizeAt}
-use Rattle.study.specs.Sound.{sound}
-use Rattle.study.proofs.Performing.{unsound}
+use Rattle.book.specs.Arrangement.{sizeAt}
+use Rattle.book.specs.Sound.{sound}
+use Rattle.book.proofs.Performing.{unsound}
 use Rattle.study.proofs.Settings.{RowWithin, row-within, meter-missing, meter-no-ramp, meter-bad, meter-taken}
 use Rattle.study.proofs.refuse.meter_number.Statement.{statement}
 use Rattle.study.proofs.refuse.meter_number.Tie as tie

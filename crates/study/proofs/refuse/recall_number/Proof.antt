@@ -5,10 +5,10 @@ use native.Mathlib.Omega.{arith}
 use borrow.Author.Needs.{needs}
 use borrow.Author.Tests.{not-true, not-false}
 use Rattle.laws.proofs.Tests.{inside-high}
-use Rattle.study.specs.Sound.{sound}
-use Rattle.study.specs.Calls.{recall}
-use Rattle.study.proofs.Sounds.{laid}
-use Rattle.study.proofs.Performing.{unsound}
+use Rattle.book.specs.Sound.{sound}
+use Rattle.book.specs.Calls.{recall}
+use Rattle.book.proofs.Sounds.{laid}
+use Rattle.book.proofs.Performing.{unsound}
 use Rattle.study.proofs.Slots.{recall-missing, recall-empty, recall-filled}
 use Rattle.study.proofs.refuse.recall_number.Statement.{statement}
 use Rattle.study.proofs.refuse.recall_number.Tie as tie

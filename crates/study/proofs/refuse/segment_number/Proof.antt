@@ -2,8 +2,8 @@
 use mathlib.Core.Path.{_≡_, sym, _∙_}
 use native.Mathlib.Omega.{arith}
 use borrow.Author.Needs.{needs}
-use Rattle.study.specs.Calls.{report}
-use Rattle.study.specs.Perform.{lent, refusalAt}
+use Rattle.book.specs.Calls.{report}
+use Rattle.book.specs.Perform.{lent, refusalAt}
 use Rattle.study.proofs.Reporting.{report-long, segment-case, segment-none, segment-there}
 use Rattle.study.proofs.refuse.segment_number.Statement.{statement}
 use Rattle.study.proofs.refuse.segment_number.Tie as tie

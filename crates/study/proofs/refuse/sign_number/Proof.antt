@@ -6,10 +6,10 @@ use mir.ValLaws.{toZ-ofZ}
 use borrow.Author.Needs.{needs}
 use borrow.Author.Tests.{not-true, not-false}
 use Rattle.laws.specs.First.{outside}
-use Rattle.study.specs.Arrangement.{sizeAt}
-use Rattle.study.specs.Sound.{sound}
-use Rattle.study.specs.Change.{signRefused}
-use Rattle.study.proofs.Performing.{unsound}
+use Rattle.book.specs.Arrangement.{sizeAt}
+use Rattle.book.specs.Sound.{sound}
+use Rattle.metanet.specs.Change.{signRefused}
+use Rattle.book.proofs.Performing.{unsound}
 use Rattle.study.proofs.Settings.{sign-missing, sign-bad, sign-taken}
 use Rattle.study.proofs.refuse.sign_number.Statement.{statement}
 use Rattle.study.proofs.refuse.sign_number.Tie as tie

@@ -7,14 +7,14 @@ use lib.ListN.{length, getD}
 use lib.Seq.{length-take-le}
 use borrow.Author.Needs.{needs}
 use borrow.Author.Tests.{not-true, not-false}
-use Rattle.model.specs.Words.{netOf}
-use Rattle.model.specs.Sound.{stepNumberIn}
-use Rattle.study.specs.Calls.{step}
-use Rattle.study.specs.Sound.{sound}
-use Rattle.study.proofs.Network.{size-word}
-use Rattle.study.proofs.Judging.{size-high}
-use Rattle.study.proofs.Sounds.{laid}
-use Rattle.study.proofs.Performing.{unsound}
+use Rattle.metanet.specs.Words.{netOf}
+use Rattle.metanet.specs.Sound.{stepNumberIn}
+use Rattle.book.specs.Calls.{step}
+use Rattle.book.specs.Sound.{sound}
+use Rattle.book.proofs.Network.{size-word}
+use Rattle.book.proofs.Judging.{size-high}
+use Rattle.book.proofs.Sounds.{laid}
+use Rattle.book.proofs.Performing.{unsound}
 use Rattle.study.proofs.Stepping.{stepsWord, step-refused, runs-spent, step-taken}
 use Rattle.study.proofs.refuse.step_number.Statement.{statement}
 use Rattle.study.proofs.refuse.step_number.Tie as tie

@@ -2,7 +2,7 @@ use mathlib.Core.Path.{sym, _∙_}
 use native.Mathlib.Omega.{arith}
 use lib.Seq.{length-take-le}
 use borrow.Author.Needs.{needs}
-use Rattle.study.proofs.Network.{segment-kept}
+use Rattle.book.proofs.Network.{segment-kept}
 use Rattle.study.proofs.segment.segment_at.Statement.{statement}
 use Rattle.study.proofs.segment.segment_at.Tie as tie
 

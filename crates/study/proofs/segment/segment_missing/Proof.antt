@@ -2,8 +2,8 @@ use Prim.Native.Nat.{ℕ}
 use mathlib.Core.Path.{ap, _∙_}
 use borrow.Author.Needs.{needs}
 use Rattle.laws.specs.First.{outside}
-use Rattle.network.specs.declared.Head.{Head}
-use Rattle.study.proofs.Network.{size-kept}
+use Rattle.format.specs.declared.Head.{Head}
+use Rattle.book.proofs.Network.{size-kept}
 use Rattle.study.proofs.segment.segment_missing.Statement.{statement}
 use Rattle.study.proofs.segment.segment_missing.Tie as tie
 

@@ -1,0 +1,151 @@
+-- Demand 3, of every list of calls that begins with an accepted Start, on arrays of any content.
+use Prim.Native.Nat.{ℕ, _≤_}
+use mathlib.Core.Path.{_≡_, refl, sym, _∙_, subst}
+use mathlib.Core.Bool.{Bool, true, _||_, not}
+use mathlib.Core.List.{List, [], _∷_, _++_, append-assoc, append-nil}
+use lib.Dec.{leb}
+use lib.ListN.{length}
+use borrow.Author.Tests.{leb-true}
+use Rattle.laws.proofs.Tests.{and-left, and-right}
+use Rattle.laws.specs.First.{row}
+use Rattle.format.specs.File.{networkOf}
+use Rattle.metanet.specs.Step.{totalOf}
+use Rattle.book.specs.Arrangement.{caseAt}
+use Rattle.book.specs.Calls.{Call, start, accepted}
+use Rattle.metanet.specs.Start.{startCase, handed}
+use Rattle.book.specs.Refusal.{refusal}
+use Rattle.book.specs.Perform.{Arrays, unless, groundsAt, refusalAt, answerOf, perform}
+use Rattle.metanet.specs.Line.{Line}
+use Rattle.book.specs.Book.{Book, started, entered, groundsIn, enter}
+use Rattle.book.specs.Claim.{Entry, kind, isStart, sizesWithin, after, answers, history, bookAfter, bookAnswers, Balanced, Since, Demand3}
+use Rattle.book.proofs.Rel.{Kept, Rel}
+use Rattle.book.proofs.Views.{filled-view, sound-view}
+use Rattle.book.proofs.History.{entry, since-start, since-call}
+use Rattle.book.proofs.Stored.{stored}
+use Rattle.book.proofs.Storing.{start-store, start-rel}
+use Rattle.book.proofs.Sim.{call-same, call-rel}
+use Rattle.book.proofs.Past.{Past, past-trans, begun-past, list-past}
+use Rattle.metanet.proofs.LineStart.{start-total}
+
+-- ---- a list of calls on arrays that hold a book
+
+module _ (words speeds : ℕ) where
+  list-answers : (cs : List Call) (a : Arrays) (b : Book) → Rel words speeds a b → answers cs a ≡ bookAnswers words speeds cs b
+  unfolding answers bookAnswers
+  list-answers [] a b r = refl
+  list-answers (c ∷ cs) a b r =
+      λ i. call-same r c i ∷ list-answers cs (perform c a .state) (enter words speeds c b .state) (call-rel r c) i
+
+  list-rel : (cs : List Call) (a : Arrays) (b : Book) → Rel words speeds a b → Rel words speeds (after cs a) (bookAfter words speeds cs b)
+  unfolding after bookAfter
+  list-rel [] a b r = r
+  list-rel (c ∷ cs) a b r = list-rel cs (perform c a .state) (enter words speeds c b .state) (call-rel r c)
+
+  list-since : (cs : List Call) (h : List Entry) (a : Arrays) (b : Book) → Rel words speeds a b → Since h b
+      → Since (h ++ history cs a) (bookAfter words speeds cs b)
+  unfolding history bookAfter
+  list-since [] h a b r s = rw (append-nil h) s
+  list-since (c ∷ cs) h a b r s =
+      subst (λ (x : List Entry). Since x (bookAfter words speeds cs (enter words speeds c b .state)))
+      (append-assoc h (entry c (perform c a .answer) ∷ []) (history cs (perform c a .state)))
+      (list-since cs (h ++ (entry c (perform c a .answer) ∷ [])) (perform c a .state) (enter words speeds c b .state) (call-rel r c)
+      (rw (call-same r c) (since-call s words speeds c)))
+
+-- ---- the Start that the list begins with
+
+module _ (file mvs paces queues : List ℕ) (a : Arrays) (e : refusalAt (start file mvs paces queues) a ≡ 0) where
+  abbrev begin : Call
+  begin = start file mvs paces queues
+
+  abbrev fresh : Book
+  fresh = started (networkOf file) (startCase (networkOf file) mvs paces queues)
+
+  no-refusal : refusal begin (groundsAt a) ≡ 0
+  unfolding refusalAt row
+  no-refusal = e
+
+  begin-answer : perform begin a .answer ≡ accepted
+  unfolding perform answerOf unless
+  begin-answer = rw e
+
+  begin-state : perform begin a .state ≡ stored begin a
+  unfolding perform unless
+  begin-state = rw e
+
+  begin-rel : Rel (length (a .words)) (length (a .speeds)) (perform begin a .state) fresh
+  begin-rel = rw begin-state (start-rel file mvs paces queues a (groundsAt a) refl refl no-refusal)
+
+  begin-since : Since (entry begin (perform begin a .answer) ∷ []) fresh
+  begin-since = rw begin-answer (since-start [] file mvs paces queues)
+
+  begin-past : (cs : List Call) (m : ℕ) → sizesWithin m (history (begin ∷ cs) a) ≡ true → Past m (after (begin ∷ cs) a) a
+  unfolding sizesWithin history after
+  begin-past cs m h =
+      let z : Arrays = perform begin a .state in
+      let t : Bool = not (isStart (kind begin (perform begin a .answer))) || leb (networkOf file .head .size) m in
+      let more : Bool = sizesWithin m (history cs z) in
+      let u : t ≡ true = and-left t more h in
+      let n : networkOf file .head .size ≤ m = leb-true _ _ (rw begin-answer at u) in
+      past-trans (list-past m (length (a .words)) (length (a .speeds)) cs z fresh begin-rel n (and-right t more h))
+      (rw begin-state (begun-past (start-store file mvs paces queues a (groundsAt a) refl refl no-refusal) n))
+
+  -- whatever the book had before
+  begin-book : (b : Book) → refusal begin (groundsIn (length (a .words)) (length (a .speeds)) b) ≡ 0
+  unfolding refusal
+  begin-book b = no-refusal
+
+  pub begin-entered : (b : Book) → enter (length (a .words)) (length (a .speeds)) begin b ≡ record { state = fresh; answer = accepted }
+  unfolding enter entered answerOf unless
+  begin-entered b = rw (begin-book b)
+
+-- ---- vehicles
+
+begun-total : {h : List Entry} {b : Book} (s : Since h b) → totalOf (b .network) (b .begun) ≡ handed (b .network) (s .mvs) (s .queues)
+begun-total s =
+    (λ i. totalOf (s .network i) (s .begun i))
+    ∙ start-total (networkOf (s .file)) (s .mvs) (s .speeds) (s .queues)
+    ∙ sym (λ i. handed (s .network i) (s .mvs) (s .queues))
+
+balance : {h : List Entry} {z : Arrays} {b : Book} (s : Since h b) (k : ℕ) (l : Line) → Kept z b k l
+    → Balanced (b .network) (b .begun) (handed (b .network) (s .mvs) (s .queues)) l (caseAt (z .words) (z .speeds) k)
+balance s k l K =
+    rw (K .is)
+    (record {
+      arrivals = K .good .arrivals-are;
+      exits = K .good .exits-are;
+      vehicles = rw (← (begun-total s)) (K .good .balance);
+    })
+
+-- ---- demand 3
+
+pub demand-3 : Demand3
+unfolding answers after history bookAnswers bookAfter
+demand-3 file mvs paces queues cs a b e =
+    let words : ℕ = length (a .words) in
+    let speeds : ℕ = length (a .speeds) in
+    let begin : Call = start file mvs paces queues in
+    let b₀ : Book = started (networkOf file) (startCase (networkOf file) mvs paces queues) in
+    let z₀ : Arrays = perform begin a .state in
+    let r₀ : Rel words speeds z₀ b₀ = begin-rel file mvs paces queues a e in
+    let r : Rel words speeds (after cs z₀) (bookAfter words speeds cs b₀) = list-rel words speeds cs z₀ b₀ r₀ in
+    let s : Since (history (begin ∷ cs) a) (bookAfter words speeds cs b₀) =
+    list-since words speeds cs (entry begin (perform begin a .answer) ∷ []) z₀ b₀ r₀ (begin-since file mvs paces queues a e) in
+    rw (begin-entered file mvs paces queues a e b)
+    (record {
+      same-answers = λ i. begin-answer file mvs paces queues a e i ∷ list-answers words speeds cs z₀ b₀ r₀ i;
+      network = r .network;
+      live = r .live .is;
+      held = λ k l h. r .slots k l h .is;
+      marks = filled-view r;
+      runs = r .runs;
+      since = s;
+      filled-since = λ k. filled-view r k ∙ s .filled k;
+      runs-since = r .runs ∙ s .runs;
+      live-balance = balance s 0 _ (r .live);
+      held-balance = λ k l h. balance s k l (r .slots k l h);
+      is-sound = sound-view r;
+      words-long = r .words-long;
+      speeds-long = r .speeds-long;
+      words-past = λ m h. begin-past file mvs paces queues a e cs m h .words-past;
+      speeds-past = λ m h. begin-past file mvs paces queues a e cs m h .speeds-past;
+    })

@@ -1,0 +1,76 @@
+-- Where a study's cases stand, and which row says that it is not sound.
+use Prim.Native.Nat.{ℕ, _+_, _*_, _≤_, _<_}
+use mathlib.Core.Path.{_≡_, sym, _∙_}
+use mathlib.Core.Bool.{Bool, true, false, _||_}
+use mathlib.Core.List.{List}
+use native.Mathlib.Nat.{mul-le-mul-right, le-of-eq}
+use native.Mathlib.Omega.{arith}
+use lib.Dec.{ltb}
+use lib.ListN.{length, length-take}
+use lib.Ieee.{Float}
+use borrow.Author.Tests.{lt-ltb, le-ltb}
+use Rattle.laws.specs.First.{firstOf}
+use Rattle.laws.proofs.First.{row-applies, row-skipped, first-some, first-zero}
+use Rattle.format.specs.Words.{keptNumber}
+use Rattle.metanet.specs.Words.{netOf}
+use Rattle.metanet.proofs.Ready.{CaseAt}
+use Rattle.book.specs.Arrangement.{caseWord, caseSpeed, wordsFor, speedsFor, sizeAt, runCountAt}
+use Rattle.book.specs.Sound.{placeNumber, slotNumber, casesNumber, soundNumber}
+use Rattle.book.proofs.Laid.{Laid}
+
+module _ {words : List ℕ} {speeds : List Float} {n : ℕ} (laid : Laid words speeds n) where
+  pub size-high : n ≤ 40
+  size-high = omega (arith, laid .size, laid .net .head .size-high)
+
+  pub placed : (k : ℕ) → k ≤ 6 → CaseAt words speeds (caseWord n k) (caseSpeed n k) n
+  placed k h =
+      record {
+        net = laid .net;
+        size = laid .size;
+        past = omega arith;
+        room = omega (arith, mul-le-mul-right (16 * n + 8) h, laid .room);
+        lane = omega (arith, mul-le-mul-right n h, laid .lane);
+      }
+
+  -- ---- the cases
+  pub runs-over : 1000000 < runCountAt words → 12 ≡ casesNumber words speeds
+  unfolding casesNumber
+  runs-over l = sym (row-applies _ _ _ (lt-ltb _ _ l))
+
+  module _ (runs : runCountAt words ≤ 1000000) where
+    pub live-refused : {r : ℕ} → r ≡ placeNumber words speeds 0 → (r ≡ 0 → ⊥) → r ≡ casesNumber words speeds
+    unfolding casesNumber
+    live-refused e some = e ∙ sym (row-skipped _ _ _ (le-ltb _ _ runs) ∙ first-some _ _ (λ z. some (e ∙ z)))
+
+    pub slots-judged : {r : ℕ} → placeNumber words speeds 0 ≡ 0 → r ≡ firstOf (λ k. slotNumber words speeds (k + 1)) 6 → r ≡ casesNumber words speeds
+    unfolding casesNumber
+    slots-judged z e = e ∙ sym (row-skipped _ _ _ (le-ltb _ _ runs) ∙ first-zero _ _ z)
+
+-- ---- the study
+
+module _ (words : List ℕ) (speeds : List Float) where
+  pub net-refused : 0 < keptNumber (netOf words) → 12 ≡ soundNumber words speeds
+  unfolding soundNumber
+  net-refused l = sym (row-applies _ _ _ (lt-ltb _ _ l))
+
+  pub words-short : length words < 2560 → 12 ≡ soundNumber words speeds
+  unfolding keptNumber
+  words-short l =
+      let short : length (netOf words) < 2560 = simp length-take (omega arith) in
+      let eleven : keptNumber (netOf words) ≡ 11 = row-applies _ _ _ (lt-ltb _ _ short) in
+      net-refused (omega (arith, eleven))
+
+  module _ (z : keptNumber (netOf words) ≡ 0) where
+    kept : ltb 0 (keptNumber (netOf words)) ≡ false
+    kept = le-ltb 0 (keptNumber (netOf words)) (le-of-eq z)
+
+    abbrev short : Bool
+    short = ltb (length words) (wordsFor (sizeAt words)) || ltb (length speeds) (speedsFor (sizeAt words))
+
+    pub lengths-refused : short ≡ true → 12 ≡ soundNumber words speeds
+    unfolding soundNumber
+    lengths-refused e = sym (row-skipped _ _ _ kept ∙ row-applies _ _ _ e)
+
+    pub cases-judged : {r : ℕ} → short ≡ false → r ≡ casesNumber words speeds → r ≡ soundNumber words speeds
+    unfolding soundNumber
+    cases-judged e q = q ∙ sym (row-skipped _ _ _ kept ∙ row-skipped _ _ _ e)

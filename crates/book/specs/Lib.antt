@@ -1,0 +1,10 @@
+pub mod Arrangement
+pub mod Sound
+pub mod Calls
+pub mod Refusal
+pub mod Perform
+pub mod Write
+pub mod Book
+pub mod Claim
+pub mod Agreed
+pub mod Example

@@ -1,0 +1,42 @@
+-- A sound study: arrays long enough for the stored n; stored network within rows 4, 6, 7, 8; the live and filled cases sound; run count
+-- ≤ 1,000,000; every mark one that the arrangement names.
+use Prim.Native.Nat.{ℕ, _+_}
+use mathlib.Core.Bool.{Bool, _||_}
+use mathlib.Core.List.{List}
+use lib.Dec.{ltb, eqb}
+use lib.ListN.{length}
+use lib.Ieee.{Float}
+use Rattle.laws.specs.First.{row, first, firstOf}
+use Rattle.format.specs.Words.{keptNumber}
+use Rattle.metanet.specs.Words.{netOf}
+use Rattle.metanet.specs.Sound.{caseNumberIn}
+use Rattle.book.specs.Arrangement.{slots, caseWord, caseSpeed, wordsFor, speedsFor, sizeAt, runCountAt, markAt}
+
+abbrev pub runsMost : ℕ
+runsMost = 1000000
+
+-- 12, of case k
+abbrev pub placeNumber : List ℕ → List Float → ℕ → ℕ
+placeNumber words speeds k = let n = sizeAt words in caseNumberIn words speeds (caseWord n k) (caseSpeed n k) n
+
+-- 12, of slot k: its mark is 0, or 1 with a sound case
+unfoldable pub slotNumber : List ℕ → List Float → ℕ → ℕ
+slotNumber words speeds k = row (ltb 1 (markAt words k)) 12 (row (eqb (markAt words k) 0) 0 (placeNumber words speeds k))
+
+-- 12, of the run count, the live case and the slots
+unfoldable pub casesNumber : List ℕ → List Float → ℕ
+unfolding slotNumber
+casesNumber words speeds =
+    row (ltb runsMost (runCountAt words)) 12
+    (first (placeNumber words speeds 0) (firstOf (λ k. slotNumber words speeds (k + 1)) slots))
+
+unfoldable pub soundNumber : List ℕ → List Float → ℕ
+unfolding casesNumber
+soundNumber words speeds =
+    row (ltb 0 (keptNumber (netOf words))) 12
+    (row (ltb (length words) (wordsFor (sizeAt words)) || ltb (length speeds) (speedsFor (sizeAt words))) 12
+    (casesNumber words speeds))
+
+-- whether the study is sound
+abbrev pub sound : List ℕ → List Float → Bool
+sound words speeds = eqb (soundNumber words speeds) 0

@@ -1,0 +1,70 @@
+-- What acceptance says, as records whose fields the crates above read.
+use Prim.Native.Nat.{ℕ, _+_, _*_, _≤_, _<_}
+use mathlib.Core.Path.{_≡_}
+use mathlib.Core.List.{List}
+use lib.ListN.{length}
+use Rattle.format.specs.declared.Head.{Head}
+use Rattle.format.specs.declared.Segment.{Segment}
+use Rattle.format.specs.File.{fileSize}
+use Rattle.format.specs.Words.{entryIn}
+
+-- row 4
+pub record HeadWithin (h : Head) : Type 0 where
+  pub step-low : 1 ≤ h .step
+  pub step-high : h .step ≤ 60
+  pub size-low : 1 ≤ h .size
+  pub size-high : h .size ≤ 40
+  pub curves-low : 1 ≤ h .curves
+  pub curves-high : h .curves ≤ 8
+  pub tau-low : 1 ≤ h .tau
+  pub tau-high : h .tau ≤ 120
+  pub nu-high : h .nu ≤ 200
+  pub kappa-low : 1 ≤ h .kappa
+  pub kappa-high : h .kappa ≤ 200
+  pub delta-high : h .delta ≤ 1000
+
+-- row 6, of the entries e
+pub record CurveWithin (e : ℕ → ℕ) : Type 0 where
+  pub start-low : 1000 ≤ e 0
+  pub start-high : e 0 ≤ 200000
+  pub falls : (j : ℕ) → j < 200 → e (j + 1) ≤ e j
+
+-- row 7, of segment i, counted from 0
+pub record SegmentWithin (h : Head) (i : ℕ) (s : Segment) : Type 0 where
+  pub metres-low : 100 ≤ s .metres
+  pub metres-high : s .metres ≤ 2000
+  pub lanes-low : 1 ≤ s .lanes
+  pub lanes-high : s .lanes ≤ 8
+  pub curve-high : s .curve < h .curves
+  pub critical-low : 1 ≤ s .critical
+  pub critical-high : s .critical < s .jam
+  pub jam-high : s .jam ≤ 200
+  pub origin-high : s .origin ≤ 1
+  pub origin-first : i ≡ 0 → s .origin ≡ 1
+  pub exit-high : s .exit ≤ 1000
+  pub exit-last : i + 1 ≡ h .size → s .exit ≡ 0
+  pub most-none : s .origin ≡ 0 → s .most ≡ 0
+  pub most-low : s .origin ≡ 1 → 1 ≤ s .most
+  pub most-high : s .most ≤ 300000
+
+-- rows 4, 6, 7 and 8, of a network that is given by its head, entries and segments
+pub record RowsWithin (h : Head) (entry : ℕ → ℕ → ℕ) (segment : ℕ → Segment) : Type 0 where
+  pub head : HeadWithin h
+  pub curve : (k : ℕ) → k < h .curves → CurveWithin (entry k)
+  pub each : (i : ℕ) → i < h .size → SegmentWithin h i (segment i)
+  pub reach : (i : ℕ) → i < h .size → entry (segment i .curve) 0 * h .step ≤ 3600 * segment i .metres
+
+-- h is within row 4, and b is as long as h says
+pub record Sized (b : List ℕ) (h : Head) : Type 0 where
+  pub within : HeadWithin h
+  pub long : length b ≡ fileSize h
+
+-- the words of a network are all there, and its head is within row 4
+pub record Kept (ws : List ℕ) (h : Head) : Type 0 where
+  pub within : HeadWithin h
+  pub long : 2560 ≤ length ws
+
+-- and each of its curves starts low enough that row 8's product fits
+pub record CurvesKept (ws : List ℕ) (h : Head) : Type 0 where
+  pub kept : Kept ws h
+  pub start : (k : ℕ) → k < h .curves → entryIn ws k 0 ≤ 200000

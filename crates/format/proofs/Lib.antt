@@ -1,0 +1,17 @@
+pub mod Accepted
+pub mod Broken
+pub mod CurveCall
+pub mod File
+pub mod From
+pub mod KeepCall
+pub mod Keeping
+pub mod Kept
+pub mod KeptFile
+pub mod Marked
+pub mod Numbers
+pub mod Placed
+pub mod Reading
+pub mod RoundTrip
+pub mod Rows
+pub mod RuleLists
+pub mod Writing

@@ -1,0 +1,204 @@
+-- What rows 4, 6, 7 and 8 say of the numbers that they do not refuse, and which of them refuses.
+use Prim.Native.Nat.{ℕ, zero, suc, _+_, _*_, _≤_, _<_}
+use mathlib.Core.Bool.{Bool, true, false}
+use mathlib.Core.Path.{_≡_, refl, sym, _∙_}
+use mathlib.Core.Logic.{⊎-elim}
+use native.Mathlib.Omega.{arith}
+use native.Mathlib.Nat.{eq-or-lt-of-le, add-zero, add-assoc}
+use native.Mathlib.Numerals.{add-one}
+use lib.Dec.{ltb, eqb}
+use borrow.Author.Tests.{ltb-false, leb-false, eqb-false, eq-eqb}
+use Rattle.laws.specs.First.{outside, row, first, firstOf}
+use Rattle.laws.proofs.Tests.{and-false, anyOf-false, inside-low, inside-high}
+use Rattle.laws.proofs.First.{row-passed, row-later, row-applies, row-skipped, first-zero, first-some, first-zero-left, first-zero-right, firstOf-none, firstOf-zero, firstOf-found, firstOf-passed, firstOf-end, firstOf-blocks}
+use Rattle.format.specs.declared.Head.{Head}
+use Rattle.format.specs.declared.Segment.{Segment}
+use Rattle.format.specs.Network.{headBad, rising, curveNumber, segmentBad, tooFast, fieldThenSpeed, segmentNumber, rowsNumber}
+use Rattle.format.proofs.Accepted.{HeadWithin, CurveWithin, SegmentWithin, RowsWithin}
+
+-- ---- row 4
+
+pub head-within : (h : Head) → headBad h ≡ false → HeadWithin h
+unfolding headBad
+head-within h e =
+    let no = anyOf-false _ e in
+    record {
+      step-low = inside-low 1 (h .step) 60 (no 0);
+      step-high = inside-high 1 (h .step) 60 (no 0);
+      size-low = inside-low 1 (h .size) 40 (no 1);
+      size-high = inside-high 1 (h .size) 40 (no 1);
+      curves-low = inside-low 1 (h .curves) 8 (no 2);
+      curves-high = inside-high 1 (h .curves) 8 (no 2);
+      tau-low = inside-low 1 (h .tau) 120 (no 3);
+      tau-high = inside-high 1 (h .tau) 120 (no 3);
+      nu-high = ltb-false _ _ (no 4);
+      kappa-low = inside-low 1 (h .kappa) 200 (no 5);
+      kappa-high = inside-high 1 (h .kappa) 200 (no 5);
+      delta-high = ltb-false _ _ (no 6);
+    }
+
+-- ---- row 6, of the entries e
+
+module _ (e : ℕ → ℕ) where
+  curve-starts-in : outside 1000 (e 0) 200000 ≡ false → curveNumber e ≡ firstOf (rising e) 200
+  unfolding curveNumber
+  curve-starts-in h = row-skipped _ _ _ h
+
+  pub curve-within : curveNumber e ≡ 0 → CurveWithin e
+  unfolding curveNumber rising
+  curve-within z =
+      let no = row-passed _ _ _ z in
+      record {
+        start-low = inside-low 1000 (e 0) 200000 no;
+        start-high = inside-high 1000 (e 0) 200000 no;
+        falls = λ j l. ltb-false _ _ (row-passed _ _ _ (firstOf-zero (rising e) 200 (row-later _ _ _ z) j l));
+      }
+
+  -- no entry is above 200,000
+  pub entry-high : CurveWithin e → (j : ℕ) → j ≤ 200 → e j ≤ 200000
+  entry-high w zero l = w .start-high
+  entry-high w (suc j) l = omega (arith, entry-high w j (omega arith), falls-suc j (omega arith))
+    where
+      falls-suc : (j : ℕ) → j < 200 → e (suc j) ≤ e j
+      falls-suc j h = rw (sym (add-one j)) (w .falls j h)
+
+  -- ---- the loop over a curve's entries, eight a turn
+
+  -- the value of the test that the entry after entry j is above it
+  abbrev pub above : ℕ → Bool
+  above j = ltb (e j) (e (j + 1))
+
+  -- row 6 of the eight entries after entry j
+  abbrev pub eightRising : ℕ → ℕ
+  eightRising j = firstOf (λ i. rising e (j + i)) 8
+
+  eight-tests : (j : ℕ) → eightRising j ≡ row (above j) 6 (row (above (j + 1)) 6 (row (above (j + 2)) 6 (row (above (j + 3)) 6 (row (above (j + 4)) 6 (row (above (j + 5)) 6 (row (above (j + 6)) 6 (row (above (j + 7)) 6 0)))))))
+  unfolding firstOf rising
+  eight-tests j = rw add-zero (chain (above j) (above (j + 1)) (above (j + 2)) (above (j + 3)) (above (j + 4)) (above (j + 5)) (above (j + 6)) (above (j + 7)))
+    where
+      chain : (p q r s t u v w : Bool) → first (first (first (first (first (first (first (first 0 (row p 6 0)) (row q 6 0)) (row r 6 0)) (row s 6 0)) (row t 6 0)) (row u 6 0)) (row v 6 0)) (row w 6 0) ≡ row p 6 (row q 6 (row r 6 (row s 6 (row t 6 (row u 6 (row v 6 (row w 6 0)))))))
+      chain true q r s t u v w = unfold first row in refl
+      chain false true r s t u v w = unfold first row in refl
+      chain false false true s t u v w = unfold first row in refl
+      chain false false false true t u v w = unfold first row in refl
+      chain false false false false true u v w = unfold first row in refl
+      chain false false false false false true v w = unfold first row in refl
+      chain false false false false false false true w = unfold first row in refl
+      chain false false false false false false false w = unfold first row in refl
+
+  -- what the code makes of nine entries that it read
+  pub eight-read : (j : ℕ) {r x0 x1 x2 x3 x4 x5 x6 x7 x8 : ℕ} → r ≡ row (ltb x0 x1) 6 (row (ltb x1 x2) 6 (row (ltb x2 x3) 6 (row (ltb x3 x4) 6 (row (ltb x4 x5) 6 (row (ltb x5 x6) 6 (row (ltb x6 x7) 6 (row (ltb x7 x8) 6 0)))))))
+      → x0 ≡ e j → x1 ≡ e (j + 1) → x2 ≡ e (j + 2) → x3 ≡ e (j + 3) → x4 ≡ e (j + 4) → x5 ≡ e (j + 5) → x6 ≡ e (j + 6) → x7 ≡ e (j + 7) → x8 ≡ e (j + 8) → r ≡ eightRising j
+  eight-read j is x0 x1 x2 x3 x4 x5 x6 x7 x8 =
+      is
+      ∙ (λ i. row (ltb (x0 i) (x1 i)) 6 (row (ltb (x1 i) (x2 i)) 6 (row (ltb (x2 i) (x3 i)) 6 (row (ltb (x3 i) (x4 i)) 6 (row (ltb (x4 i) (x5 i)) 6 (row (ltb (x5 i) (x6 i)) 6 (row (ltb (x6 i) (x7 i)) 6 (row (ltb (x7 i) (x8 i)) 6 0))))))))
+      ∙ sym (eight-tests j ∙ simp add-assoc)
+
+  -- the loop's invariant: none of the first k eights is refused
+  pub record Falling (k : ℕ) : Type 0 where
+    pub within : k ≤ 25
+    pub starts : outside 1000 (e 0) 200000 ≡ false
+    pub none : firstOf (λ k. eightRising (8 * k)) k ≡ 0
+
+  curve-eights : outside 1000 (e 0) 200000 ≡ false → firstOf (λ k. eightRising (8 * k)) 25 ≡ curveNumber e
+  curve-eights h = firstOf-blocks (rising e) 8 25 ∙ sym (curve-starts-in h)
+
+  pub curve-refused : outside 1000 (e 0) 200000 ≡ true → 6 ≡ curveNumber e
+  unfolding curveNumber
+  curve-refused h = sym (row-applies _ _ _ h)
+
+  pub curve-begun : outside 1000 (e 0) 200000 ≡ false → Falling 0
+  curve-begun h = record { within = omega arith; starts = h; none = firstOf-none _ }
+
+  module _ {k r : ℕ} (t : Falling k) (is : r ≡ eightRising (8 * k)) (more : k < 25) where
+    pub curve-rises : (r ≡ 0 → ⊥) → r ≡ curveNumber e
+    curve-rises some = firstOf-found (λ k. eightRising (8 * k)) 25 k more (t .none) is some ∙ curve-eights (t .starts)
+
+    pub curve-falls : r ≡ 0 → Falling (k + 1)
+    curve-falls z = record { within = omega arith; starts = t .starts; none = firstOf-passed (λ k. eightRising (8 * k)) k (t .none) is z }
+
+  pub curve-passes : {k : ℕ} → Falling k → 25 ≤ k → 0 ≡ curveNumber e
+  curve-passes {k} t end = firstOf-end (λ k. eightRising (8 * k)) 25 k (t .within) end (t .none) ∙ curve-eights (t .starts)
+
+-- ---- row 7
+
+pub segment-within : (h : Head) (i : ℕ) (s : Segment) → segmentBad h i s ≡ false → SegmentWithin h i s
+unfolding segmentBad
+segment-within h i s e =
+    let no = anyOf-false _ e in
+    let one = ltb-false 1 (s .origin) (no 6) in
+    let bare : s .origin ≡ 0 → s .most ≡ 0 = λ q. omega (arith, ltb-false 0 (s .most) (and-false (eqb (s .origin) 0) _ (no 10) (eq-eqb _ _ q))) in
+    let most : s .origin ≡ 1 → outside 1 (s .most) 300000 ≡ false = λ q. and-false (eqb (s .origin) 1) _ (no 11) (eq-eqb _ _ q) in
+    let high : s .origin ≡ 1 → s .most ≤ 300000 = λ q. inside-high 1 (s .most) 300000 (most q) in
+    record {
+      metres-low = inside-low 100 (s .metres) 2000 (no 0);
+      metres-high = inside-high 100 (s .metres) 2000 (no 0);
+      lanes-low = inside-low 1 (s .lanes) 8 (no 1);
+      lanes-high = inside-high 1 (s .lanes) 8 (no 1);
+      curve-high = leb-false _ _ (no 2);
+      critical-low = ltb-false _ _ (no 3);
+      critical-high = leb-false _ _ (no 4);
+      jam-high = inside-high 2 (s .jam) 200 (no 5);
+      origin-high = one;
+      origin-first = λ q. omega (arith, eqb-false (s .origin) 0 (and-false (eqb i 0) _ (no 7) (eq-eqb i 0 q)));
+      exit-high = ltb-false _ _ (no 8);
+      exit-last = λ q. omega (arith, ltb-false 0 (s .exit) (and-false (eqb (i + 1) (h .size)) _ (no 9) (eq-eqb _ _ q)));
+      most-none = bare;
+      most-low = λ q. inside-low 1 (s .most) 300000 (most q);
+      most-high = ⊎-elim high (λ lt. omega (arith, bare (omega arith))) (eq-or-lt-of-le one);
+    }
+
+-- ---- rows 7 and 8: what the code returns, where it found s, the first entry F of its curve and the value of row 7's test
+
+module _ (bad : Bool) (h : Head) (F : ℕ) (s : Segment) where
+  pub field-refused : bad ≡ true → 7 ≡ fieldThenSpeed bad h F s
+  unfolding fieldThenSpeed
+  field-refused e = sym (row-applies _ _ _ e)
+
+  pub speed-refused : bad ≡ false → tooFast h F s ≡ true → 8 ≡ fieldThenSpeed bad h F s
+  unfolding fieldThenSpeed
+  speed-refused e f = sym (row-skipped _ _ _ e ∙ row-applies _ _ _ f)
+
+  pub speed-passed : bad ≡ false → tooFast h F s ≡ false → 0 ≡ fieldThenSpeed bad h F s
+  unfolding fieldThenSpeed
+  speed-passed e f = sym (row-skipped _ _ _ e ∙ row-skipped _ _ _ f)
+
+-- ---- all four rows, of a network that is given by its head, entries and segments
+
+-- which of them refuses
+module _ (h : Head) (entry : ℕ → ℕ → ℕ) (segment : ℕ → Segment) where
+  pub rows-head : headBad h ≡ true → rowsNumber h entry segment ≡ 4
+  unfolding rowsNumber
+  rows-head e = row-applies _ _ _ e
+
+  pub rows-curves : headBad h ≡ false → (firstOf (λ k. curveNumber (entry k)) (h .curves) ≡ 0 → ⊥) → rowsNumber h entry segment ≡ firstOf (λ k. curveNumber (entry k)) (h .curves)
+  unfolding rowsNumber
+  rows-curves e n = row-skipped _ _ _ e ∙ first-some _ _ n
+
+  pub rows-segments : headBad h ≡ false → firstOf (λ k. curveNumber (entry k)) (h .curves) ≡ 0 → rowsNumber h entry segment ≡ firstOf (segmentNumber h entry segment) (h .size)
+  unfolding rowsNumber
+  rows-segments e z = row-skipped _ _ _ e ∙ first-zero _ _ z
+
+-- what acceptance says
+module _ (h : Head) (entry : ℕ → ℕ → ℕ) (segment : ℕ → Segment) (z : rowsNumber h entry segment ≡ 0) where
+  pub head-passed : headBad h ≡ false
+  unfolding rowsNumber
+  head-passed = row-passed _ _ _ z
+
+  pub curves-passed : (k : ℕ) → k < h .curves → curveNumber (entry k) ≡ 0
+  unfolding rowsNumber
+  curves-passed = firstOf-zero (λ k. curveNumber (entry k)) _ (first-zero-left _ _ (row-later _ _ _ z))
+
+  pub segments-passed : (i : ℕ) → i < h .size → segmentNumber h entry segment i ≡ 0
+  unfolding rowsNumber
+  segments-passed = firstOf-zero (segmentNumber h entry segment) _ (first-zero-right (firstOf (λ k. curveNumber (entry k)) (h .curves)) _ (row-later _ _ _ z))
+
+  pub rows-within : RowsWithin h entry segment
+  unfolding segmentNumber fieldThenSpeed
+  rows-within =
+      record {
+        head = head-within h head-passed;
+        curve = λ k l. curve-within (entry k) (curves-passed k l);
+        each = λ i l. segment-within h i (segment i) (row-passed _ _ _ (segments-passed i l));
+        reach = λ i l. ltb-false _ _ (row-passed _ _ _ (row-later _ _ _ (segments-passed i l)));
+      }

@@ -1,0 +1,119 @@
+-- The network file: where each number stands in its bytes, and the rows of the table that refuse it, in their order.
+use Prim.Native.Nat.{ℕ, _+_, _*_}
+use mathlib.Core.Bool.{Bool, _||_, _&&_, not}
+use mathlib.Core.List.{List, [], _∷_}
+use lib.ListN.{length, getD}
+use lib.Dec.{ltb, eqb}
+use Rattle.laws.specs.First.{row, first, firstOf}
+use Rattle.laws.specs.BigEndian.{byteAt, u16At, u32At}
+use Rattle.format.specs.declared.Head.{Head}
+use Rattle.format.specs.declared.Segment.{Segment}
+use Rattle.format.specs.Network.{Network, networkFrom, headBad, curveNumber, segmentBad, fieldThenSpeed}
+
+-- ---- head, 16 bytes
+
+-- 0–2 "FWN"
+abbrev pub mark : List ℕ
+mark = 70 ∷ 87 ∷ 78 ∷ []
+
+abbrev pub hasMark : List ℕ → Bool
+hasMark b = eqb (byteAt b 0) (getD mark 0 0) && eqb (byteAt b 1) (getD mark 1 0) && eqb (byteAt b 2) (getD mark 2 0)
+
+-- 3–4 version
+abbrev pub versionOf : List ℕ → ℕ
+versionOf b = u16At b 3
+
+-- 5 T; 6 n; 7 curve count c; 8 τ; 9 ν; 10 κ; 12–13 δ
+abbrev pub headOf : List ℕ → Head
+headOf b =
+    record {
+      step = byteAt b 5;
+      size = byteAt b 6;
+      curves = byteAt b 7;
+      tau = byteAt b 8;
+      nu = byteAt b 9;
+      kappa = byteAt b 10;
+      delta = u16At b 12;
+    }
+
+-- 11 zero; 14–15 zero
+abbrev pub headPadding : List ℕ → Bool
+headPadding b = ltb 0 (byteAt b 11) || ltb 0 (u16At b 14)
+
+-- 16 + 804c + 16n
+abbrev pub fileSize : Head → ℕ
+fileSize h = 16 + 804 * h .curves + 16 * h .size
+
+-- ---- then c curves, each 201 32-bit entries
+
+abbrev pub curveStart : ℕ → ℕ
+curveStart k = 16 + 804 * k
+
+-- entry j of the curve at place at
+abbrev pub entryAt : List ℕ → ℕ → ℕ → ℕ
+entryAt b at j = u32At b (at + 4 * j)
+
+-- ---- then n records of 16 bytes
+
+abbrev pub recordStart : Head → ℕ → ℕ
+recordStart h i = 16 + 804 * h .curves + 16 * i
+
+-- 0–1 L; 2 H; 3 curve; 4 C; 5 J; 6 origin; 8–9 X; 10–13 Q
+abbrev pub segmentAt : List ℕ → ℕ → Segment
+segmentAt b at =
+    record {
+      metres = u16At b at;
+      lanes = byteAt b (at + 2);
+      curve = byteAt b (at + 3);
+      critical = byteAt b (at + 4);
+      jam = byteAt b (at + 5);
+      origin = byteAt b (at + 6);
+      exit = u16At b (at + 8);
+      most = u32At b (at + 10);
+    }
+
+-- 7 zero; 14–15 zero
+abbrev pub recordPadding : List ℕ → ℕ → Bool
+recordPadding b at = ltb 0 (byteAt b (at + 7)) || ltb 0 (u16At b (at + 14))
+
+-- ---- the network that a file holds
+
+abbrev pub entryOn : List ℕ → ℕ → ℕ → ℕ
+entryOn b k = entryAt b (curveStart k)
+
+abbrev pub segmentOn : List ℕ → ℕ → Segment
+segmentOn b i = segmentAt b (recordStart (headOf b) i)
+
+abbrev pub networkOf : List ℕ → Network
+networkOf b = networkFrom (headOf b) (entryOn b) (segmentOn b)
+
+-- ---- the table: the first row that applies, or 0
+
+-- 1 under 16 bytes; 2 mark; 3 version; 4 head field; 5 length not 16 + 804c + 16n
+unfoldable pub headNumber : List ℕ → ℕ
+headNumber b =
+    row (ltb (length b) 16) 1
+    (row (not (hasMark b)) 2
+    (row (not (eqb (versionOf b) 1)) 3
+    (row (headBad (headOf b) || headPadding b) 4
+    (row (not (eqb (length b) (fileSize (headOf b)))) 5 0))))
+
+-- curves in order: 6 entry out of range or rising
+abbrev pub curveIn : List ℕ → ℕ → ℕ
+curveIn b k = curveNumber (entryAt b (curveStart k))
+
+unfoldable pub curvesNumber : List ℕ → ℕ
+curvesNumber b = firstOf (curveIn b) (headOf b .curves)
+
+-- record by record: 7 field; 8 F × T > 3600 × L
+unfoldable pub recordNumber : List ℕ → Head → ℕ → ℕ
+recordNumber b h i =
+    let at = recordStart h i in
+    let s = segmentAt b at in
+    fieldThenSpeed (segmentBad h i s || recordPadding b at) h (entryAt b (curveStart (s .curve)) 0) s
+
+unfoldable pub recordsNumber : List ℕ → ℕ
+recordsNumber b = firstOf (recordNumber b (headOf b)) (headOf b .size)
+
+unfoldable pub fileNumber : List ℕ → ℕ
+fileNumber b = first (headNumber b) (first (curvesNumber b) (recordsNumber b))

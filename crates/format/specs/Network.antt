@@ -1,0 +1,108 @@
+-- A network, and the rows of the table that judge its numbers: 4, 6, 7 and 8.
+use Prim.Native.Nat.{ℕ, _+_, _*_, _<_}
+use mathlib.Core.Path.{_≡_}
+use mathlib.Core.Bool.{Bool, _&&_}
+use mathlib.Core.List.{List, [], _∷_}
+use lib.ListN.{length, getD}
+use lib.Dec.{ltb, leb, eqb}
+use Rattle.laws.specs.First.{anyOf, outside, row, first, firstOf}
+use Rattle.laws.specs.Lists.{table}
+use Rattle.format.specs.declared.Head.{Head}
+use Rattle.format.specs.declared.Segment.{Segment}
+
+-- Head, c curves of 201 entries each, n segments in driving order
+pub record Network : Type 0 where
+  pub head : Head
+  pub curves : List (List ℕ)
+  pub segments : List Segment
+
+abbrev pub noSegment : Segment
+noSegment = record { metres = 0; lanes = 0; curve = 0; critical = 0; jam = 0; origin = 0; exit = 0; most = 0 }
+
+-- the network with the head h, the entries entry k j and the segments segment i
+unfoldable pub networkFrom : Head → (ℕ → ℕ → ℕ) → (ℕ → Segment) → Network
+networkFrom h entry segment =
+    record { head = h; curves = table (λ k. table (entry k) 201) (h .curves); segments = table segment (h .size) }
+
+-- entry j of curve k: the speed of equation 5 at density j, in whole m/h
+abbrev pub entryOf : Network → ℕ → ℕ → ℕ
+entryOf w k j = getD (getD (w .curves) k []) j 0
+
+-- segment i, counted from 0
+abbrev pub segmentOf : Network → ℕ → Segment
+segmentOf w i = getD (w .segments) i noSegment
+
+-- ---- 4: T 1..60; n 1..40; c 1..8; τ 1..120; ν 0..200; κ 1..200; δ 0..1000
+abbrev pub headTests : Head → List Bool
+headTests h =
+    outside 1 (h .step) 60
+    ∷ outside 1 (h .size) 40
+    ∷ outside 1 (h .curves) 8
+    ∷ outside 1 (h .tau) 120
+    ∷ ltb 200 (h .nu)
+    ∷ outside 1 (h .kappa) 200
+    ∷ ltb 1000 (h .delta)
+    ∷ []
+
+unfoldable pub headBad : Head → Bool
+headBad h = anyOf (headTests h)
+
+-- ---- 6: 1,000 ≤ e0 ≤ 200,000, none above the one before. A curve is given by its entries e 0 .. e 200
+
+-- 6 where the entry after entry j is above it
+unfoldable pub rising : (ℕ → ℕ) → ℕ → ℕ
+rising e j = row (ltb (e j) (e (j + 1))) 6 0
+
+unfoldable pub curveNumber : (ℕ → ℕ) → ℕ
+curveNumber e = row (outside 1000 (e 0) 200000) 6 (firstOf (rising e) 200)
+
+-- ---- 7: L 100..2000; H 1..8; curve 0..c−1; C 1..J−1; J 2..200; origin 0 or 1, 1 at segment 1;
+-- X 0..1000, 0 at segment n; Q 1..300,000 with an origin, else 0. Segment i is counted from 0
+abbrev pub segmentTests : Head → ℕ → Segment → List Bool
+segmentTests h i s =
+    outside 100 (s .metres) 2000
+    ∷ outside 1 (s .lanes) 8
+    ∷ leb (h .curves) (s .curve)
+    ∷ ltb (s .critical) 1
+    ∷ leb (s .jam) (s .critical)
+    ∷ outside 2 (s .jam) 200
+    ∷ ltb 1 (s .origin)
+    ∷ (eqb i 0 && eqb (s .origin) 0)
+    ∷ ltb 1000 (s .exit)
+    ∷ (eqb (i + 1) (h .size) && ltb 0 (s .exit))
+    ∷ (eqb (s .origin) 0 && ltb 0 (s .most))
+    ∷ (eqb (s .origin) 1 && outside 1 (s .most) 300000)
+    ∷ []
+
+unfoldable pub segmentBad : Head → ℕ → Segment → Bool
+segmentBad h i s = anyOf (segmentTests h i s)
+
+-- ---- 8: F × T > 3600 × L, F being the first entry of the segment's curve
+abbrev pub tooFast : Head → ℕ → Segment → Bool
+tooFast h F s = ltb (3600 * s .metres) (F * h .step)
+
+-- 7, where a field is bad, then 8
+unfoldable pub fieldThenSpeed : Bool → Head → ℕ → Segment → ℕ
+fieldThenSpeed bad h F s = row bad 7 (row (tooFast h F s) 8 0)
+
+-- ---- rows 4, 6, 7 and 8 of a network that is given by its head, its entries and its segments: curves in order, then segment by segment
+
+unfoldable pub segmentNumber : Head → (ℕ → ℕ → ℕ) → (ℕ → Segment) → ℕ → ℕ
+segmentNumber h entry segment i =
+    let s = segment i in
+    fieldThenSpeed (segmentBad h i s) h (entry (s .curve) 0) s
+
+unfoldable pub rowsNumber : Head → (ℕ → ℕ → ℕ) → (ℕ → Segment) → ℕ
+rowsNumber h entry segment =
+    row (headBad h) 4
+    (first (firstOf (λ k. curveNumber (entry k)) (h .curves))
+    (firstOf (segmentNumber h entry segment) (h .size)))
+
+abbrev pub networkNumber : Network → ℕ
+networkNumber w = rowsNumber (w .head) (entryOf w) (segmentOf w)
+
+-- its lists are as long as its head says
+pub record Formed (w : Network) : Type 0 where
+  pub curves : length (w .curves) ≡ w .head .curves
+  pub entries : (k : ℕ) → k < w .head .curves → length (getD (w .curves) k []) ≡ 201
+  pub segments : length (w .segments) ≡ w .head .size

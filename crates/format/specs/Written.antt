@@ -1,0 +1,38 @@
+-- The file of a network. A number that does not fit its field loses its upper bytes; none does in a network within rows 4, 6, 7 and 8.
+use Prim.Native.Nat.{ℕ, _/_}
+use mathlib.Core.List.{List, [], _∷_, _++_}
+use lib.ListN.{getD}
+use Rattle.laws.specs.Lists.{parts}
+use Rattle.laws.specs.BigEndian.{low, u32Bytes}
+use Rattle.format.specs.declared.Head.{Head}
+use Rattle.format.specs.declared.Segment.{Segment}
+use Rattle.format.specs.Network.{Network, entryOf, segmentOf}
+use Rattle.format.specs.File.{mark}
+
+-- the mark is written back
+unfoldable pub headBytes : Head → List ℕ
+headBytes h =
+    getD mark 0 0 ∷ getD mark 1 0 ∷ getD mark 2 0
+    ∷ 0 ∷ 1
+    ∷ low (h .step) ∷ low (h .size) ∷ low (h .curves) ∷ low (h .tau) ∷ low (h .nu) ∷ low (h .kappa)
+    ∷ 0
+    ∷ low (h .delta / 256) ∷ low (h .delta)
+    ∷ 0 ∷ 0
+    ∷ []
+
+unfoldable pub segmentBytes : Segment → List ℕ
+segmentBytes s =
+    low (s .metres / 256) ∷ low (s .metres)
+    ∷ low (s .lanes) ∷ low (s .curve) ∷ low (s .critical) ∷ low (s .jam) ∷ low (s .origin)
+    ∷ 0
+    ∷ low (s .exit / 256) ∷ low (s .exit)
+    ∷ low (s .most / 16777216) ∷ low (s .most / 65536) ∷ low (s .most / 256) ∷ low (s .most)
+    ∷ 0 ∷ 0
+    ∷ []
+
+-- head, then c curves, each 201 entries, then n records
+unfoldable pub fileOf : Network → List ℕ
+fileOf w =
+    headBytes (w .head)
+    ++ (parts (λ k. parts (λ j. u32Bytes (entryOf w k j)) 201) (w .head .curves)
+    ++ parts (λ i. segmentBytes (segmentOf w i)) (w .head .size))

@@ -1,0 +1,118 @@
+-- A step that its call permits keeps what holds of the line.
+use Prim.Native.Nat.{ℕ, _+_, _*_, _≤_, _<_}
+use native.Mathlib.Nat.{mul-le-mul}
+use native.Mathlib.Omega.{arith}
+use mathlib.Core.Path.{_≡_, refl, sym, _∙_}
+use mathlib.Core.List.{List, [], _∷_, _++_}
+use lib.Dec.{ltb}
+use lib.ListN.{getD}
+use borrow.Author.Tests.{ltb-false, leb-false}
+use Rattle.laws.specs.First.{firstOf}
+use Rattle.laws.specs.Sums.{sumOf}
+use Rattle.laws.proofs.First.{row-passed, row-later, first-zero-left, first-zero-right, firstOf-zero}
+use Rattle.laws.proofs.Lists.{length-table}
+use Rattle.laws.proofs.Sums.{sum-high}
+use Rattle.laws.proofs.Tests.{or-left}
+use Rattle.format.specs.declared.Head.{Head}
+use Rattle.format.specs.declared.Segment.{Segment}
+use Rattle.format.specs.Network.{Network, entryOf, segmentOf}
+use Rattle.metanet.specs.declared.Row.{Row}
+use Rattle.metanet.specs.Case.{Case, rowOf}
+use Rattle.metanet.specs.Step.{vehiclesIn, freeSpeed, merges, around, stepRow, stepRows, exitsNow, stepOn, totalOf}
+use Rattle.metanet.proofs.Ready.{SegmentOk, RowOk}
+use Rattle.metanet.specs.Sound.{arrivalNumber, stepNumber}
+use Rattle.metanet.proofs.SegmentLaws.{segment-ok}
+use Rattle.metanet.proofs.SoundLaws.{row-ok}
+use Rattle.metanet.proofs.Formed.{sign-kept, setting-kept, speed-formed}
+use Rattle.metanet.proofs.Balance.{FiguresWithin, new-is, balance, figures-within}
+use Rattle.metanet.specs.Line.{stepped, Line, change, caseOf, stepsOf, handedIn, letOut}
+use Rattle.metanet.proofs.Good.{Good}
+use Rattle.metanet.proofs.CaseSound.{row-sound, SoundAt}
+use Rattle.metanet.proofs.Lines.{net-within, total-le, Changed, good-more}
+use Rattle.metanet.proofs.LineRows.{old-row}
+
+-- ---- what the rows 15 and 16 say
+
+module _ (h : Head) (entry : ℕ → ℕ → ℕ) (segment : ℕ → Segment) (steps : ℕ) (ds : List ℕ) (z : stepNumber h entry segment steps ds ≡ 0) where
+  arrival-le : (i : ℕ) → i < h .size → getD ds i 0 ≤ 1000000
+  unfolding stepNumber arrivalNumber
+  arrival-le i l =
+      ltb-false _ _ (or-left (ltb 1000000 (getD ds i 0)) _ (row-passed _ _ _ (firstOf-zero (arrivalNumber h entry segment ds) (h .size) (first-zero-left _ _ (row-later _ _ _ z)) i l)))
+
+  steps-left : steps < 20000
+  unfolding stepNumber
+  steps-left = leb-false _ _ (row-passed _ _ _ (first-zero-right (firstOf (arrivalNumber h entry segment ds) (h .size)) _ (row-later _ _ _ z)))
+
+-- ---- the line with the step
+
+module _ {w : Network} {s : Case} {l : Line} (g : Good w s l) (ds : List ℕ) (z : stepNumber (w .head) (entryOf w) (segmentOf w) (stepsOf l) ds ≡ 0) where
+  abbrev h : Head
+  h = w .head
+
+  abbrev c : Case
+  c = caseOf w s l
+
+  abbrev new : List Row
+  new = stepRows h (entryOf w) (segmentOf w) (c .rows) (c .steps) ds
+
+  segments-ok : (i : ℕ) → i < h .size → SegmentOk h (segmentOf w i) (freeSpeed h (entryOf w) (segmentOf w) i)
+  segments-ok = segment-ok (net-within (g .net))
+
+  rows-ok : (i : ℕ) → i < h .size → RowOk (segmentOf w i) (freeSpeed h (entryOf w) (segmentOf w) i) (rowOf (c .rows) i)
+  rows-ok i k = row-ok (segmentOf w i) (rowOf (c .rows) i) (merges h (entryOf w) (segmentOf w) i) _ (segments-ok i k .most-high) (row-sound _ _ _ _ (old-row g i k))
+
+  came-le : sumOf (λ i. getD ds i 0) (h .size) ≤ 40000000
+  came-le =
+      omega (arith, sum-high (λ i. getD ds i 0) 1000000 (h .size) (arrival-le h (entryOf w) (segmentOf w) (stepsOf l) ds z), net-within (g .net) .head .size-high)
+
+  moved : sumOf (vehiclesIn new) (h .size) + exitsNow h (entryOf w) (segmentOf w) (c .rows) ≡ totalOf w c + sumOf (λ i. getD ds i 0) (h .size)
+  moved = balance h (entryOf w) (segmentOf w) (c .rows) (c .steps) ds segments-ok rows-ok
+
+  spent : h .step * totalOf w c ≤ 60 * 800168000000
+  spent = mul-le-mul (net-within (g .net) .head .step-high) (total-le g)
+
+  figures-le : (i : ℕ) → i < h .size → FiguresWithin (rowOf new i) 1000000000000
+  figures-le i k =
+      let f = figures-within h (entryOf w) (segmentOf w) (c .rows) (c .steps) ds segments-ok rows-ok i k in
+      let t = total-le g in
+      record {
+        count = omega (arith, f .count, t, came-le);
+        queue = omega (arith, f .queue, t, came-le);
+        outflow = omega (arith, f .outflow, t, came-le);
+        release = omega (arith, f .release, t, came-le);
+      }
+
+  new-row : (i : ℕ) → i < h .size → SoundAt h (entryOf w) (segmentOf w) new i
+  unfolding stepRow
+  new-row i k =
+      let e = entryOf w in
+      let m = merges h e (segmentOf w) i in
+      let f = freeSpeed h e (segmentOf w) i in
+      let r = rowOf (c .rows) i in
+      let d = getD ds i 0 in
+      let o = around h e (segmentOf w) (c .rows) i in
+      let is = new-is h e (segmentOf w) (c .rows) (c .steps) ds segments-ok rows-ok i k in
+      let old = old-row g i k in
+      record {
+        figures = figures-le i k;
+        sign = rw is (sign-kept h (segmentOf w i) f r (c .steps) d m o ∙ old .sign);
+        setting = rw is (setting-kept h (segmentOf w i) f r (c .steps) d m o m (old .setting));
+        speed = rw is (speed-formed h (segmentOf w i) f r (c .steps) d m o (segments-ok i k));
+      }
+
+  step-changes : Changed w c (stepped ds)
+  unfolding change handedIn letOut stepOn stepRows
+  step-changes =
+      record {
+        many = length-table (stepRow h (entryOf w) (segmentOf w) (c .rows) (c .steps) ds) (h .size) ∙ sym (g .many);
+        rows = new-row;
+        steps = refl;
+        arrivals = refl;
+        exits = refl;
+        total = moved;
+        came = came-le;
+        time = omega (arith, spent);
+      }
+
+  pub good-step : Good w s (l ++ (stepped ds ∷ []))
+  good-step = good-more g (stepped ds) step-changes (omega (arith, steps-left h (entryOf w) (segmentOf w) (stepsOf l) ds z))

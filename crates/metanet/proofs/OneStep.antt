@@ -1,0 +1,62 @@
+-- One step over the arrays is one step of the case that they hold, and no vehicle is made or lost.
+use Prim.Native.Nat.{ℕ, _+_, _*_, _<_}
+use mathlib.Core.Path.{_≡_, sym, ap, _∙_}
+use mathlib.Core.List.{List}
+use native.Mathlib.Omega.{arith}
+use lib.ListN.{getD}
+use lib.Ieee.{Float}
+use Rattle.laws.specs.Sums.{sumOf}
+use Rattle.format.specs.Network.{networkFrom}
+use Rattle.format.specs.Words.{headIn, entryIn, segmentIn, networkIn}
+use Rattle.metanet.specs.Case.{Case, rowOf}
+use Rattle.metanet.specs.Step.{vehiclesIn, exitsNow, stepRows, stepOn, stepCase}
+use Rattle.metanet.specs.Words.{netOf, rowsIn, caseIn}
+use Rattle.metanet.proofs.Ready.{RowOk, Ready}
+use Rattle.metanet.proofs.Statements.{StepsTheCase, Balances}
+use Rattle.metanet.proofs.Turns.{row-is, segment-at}
+use Rattle.metanet.proofs.CaseLaws.{case-back}
+use Rattle.metanet.proofs.SameNetwork.{step-from}
+use Rattle.metanet.proofs.Balance.{balance}
+
+module _ {words : List ℕ} {speeds : List Float} {ds : List ℕ} {at from n : ℕ} (ok : Ready words speeds ds at from n) where
+  abbrev net : List ℕ
+  net = netOf words
+
+  -- on the network's list of curves and segments as on its words
+  pub step-on-words : (c : Case) → stepCase (networkIn net) c ds ≡ stepOn (headIn net) (entryIn net) (segmentIn net) c ds
+  step-on-words c = step-from (headIn net) (entryIn net) (segmentIn net) (λ i l. ok .net .each i l .curve-high) c ds
+
+pub steps-the-case : StepsTheCase
+steps-the-case words speeds ds at from n ok tot = case-back ok tot ∙ sym (step-on-words ok (caseIn words speeds at from n))
+
+module _ {words : List ℕ} {speeds : List Float} {ds : List ℕ} {at from n : ℕ} (ok : Ready words speeds ds at from n) where
+  abbrev old : Case
+  old = caseIn words speeds at from n
+
+  row-held : (i : ℕ) → i < headIn (netOf words) .size → RowOk (segmentIn (netOf words) i) (entryIn (netOf words) (segmentIn (netOf words) i .curve) 0) (rowOf (rowsIn words speeds at from n) i)
+  row-held i l =
+      let m : i < n = omega (arith, ok .size) in
+      rw (row-is ok i m) (ok .row i m)
+
+  moved : (t : ℕ) → let h = headIn (netOf words) in let rows = rowsIn words speeds at from n in
+      sumOf (vehiclesIn (stepRows h (entryIn (netOf words)) (segmentIn (netOf words)) rows t ds)) (h .size) + exitsNow h (entryIn (netOf words)) (segmentIn (netOf words)) rows
+      ≡ sumOf (vehiclesIn rows) (h .size) + sumOf (λ i. getD ds i 0) (h .size)
+  moved t =
+      balance (headIn (netOf words)) (entryIn (netOf words)) (segmentIn (netOf words)) (rowsIn words speeds at from n) t ds
+      (λ i l. segment-at ok i (omega (arith, ok .size))) row-held
+
+  on-words : let h = headIn (netOf words) in
+      let new = stepOn h (entryIn (netOf words)) (segmentIn (netOf words)) old ds in
+      sumOf (vehiclesIn (new .rows)) (h .size) + new .exits ≡ sumOf (vehiclesIn (old .rows)) (h .size) + old .exits + sumOf (λ i. getD ds i 0) (h .size)
+  unfolding stepOn caseIn
+  on-words = regroup _ _ _ _ _ (moved (getD words (at + 16 * n) 0))
+    where
+      regroup : (a b x y z : ℕ) → a + b ≡ x + y → a + (z + b) ≡ x + z + y
+      regroup a b x y z e = omega (arith, e)
+
+pub balances : Balances
+unfolding networkFrom
+balances words speeds ds at from n ok =
+    ap (λ (c : Case). sumOf (vehiclesIn (c .rows)) (headIn (netOf words) .size) + c .exits) (step-on-words ok (caseIn words speeds at from n))
+    ∙ on-words ok
+    ∙ ap (λ (m : ℕ). sumOf (vehiclesIn (caseIn words speeds at from n .rows)) (headIn (netOf words) .size) + caseIn words speeds at from n .exits + sumOf (λ i. getD ds i 0) m) (sym (ok .size))

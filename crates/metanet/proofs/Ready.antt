@@ -1,0 +1,125 @@
+-- What a step rests on, as records whose fields the proofs read.
+use Prim.Native.Nat.{ℕ, _+_, _-_, _*_, _≤_, _<_}
+use mathlib.Core.Path.{_≡_}
+use mathlib.Core.List.{List}
+use mathlib.Core.Bool.{cond, _&&_}
+use lib.ListN.{getD, drop, length}
+use lib.Dec.{T, eqb, ltb}
+use lib.Ieee.{Float, le}
+use Rattle.laws.specs.Real.{real, _⊘_}
+use Rattle.format.specs.declared.Head.{Head}
+use Rattle.format.specs.declared.Segment.{Segment}
+use Rattle.format.proofs.Accepted.{RowsWithin}
+use Rattle.format.specs.Words.{headIn, entryIn, segmentIn}
+use Rattle.metanet.specs.declared.Row.{Row}
+use Rattle.metanet.specs.Case.{alineaKind}
+use Rattle.metanet.specs.Speed.{area}
+use Rattle.metanet.specs.Step.{made, desiredSpeed}
+use Rattle.metanet.specs.Words.{netOf, rowIn, rowAt, stepWords, stepSpeeds, leaving}
+
+-- length and lanes are such that G is 1..16,000
+pub record AreaOk (s : Segment) : Type 0 where
+  pub metres-low : 1 ≤ s .metres
+  pub metres-high : s .metres ≤ 2000
+  pub lanes-low : 1 ≤ s .lanes
+  pub lanes-high : s .lanes ≤ 8
+
+-- a segment that acceptance has judged, with F: 1,000 ≤ F ≤ 200,000 and F × T ≤ 3600 × L
+pub record SegmentOk (h : Head) (s : Segment) (f : ℕ) : Type 0 where
+  pub metres-low : 100 ≤ s .metres
+  pub metres-high : s .metres ≤ 2000
+  pub lanes-low : 1 ≤ s .lanes
+  pub lanes-high : s .lanes ≤ 8
+  pub curve-high : s .curve < 8
+  pub critical-high : s .critical < s .jam
+  pub jam-high : s .jam ≤ 200
+  pub exit-high : s .exit ≤ 1000
+  pub most-high : s .most ≤ 300000
+  pub slow : 1000 ≤ f
+  pub fast : f ≤ 200000
+  pub reach : f * h .step ≤ 3600 * s .metres
+
+-- what a step asks of a row: less than that it is sound
+pub record RowOk (s : Segment) (f : ℕ) (r : Row) : Type 0 where
+  pub count : r .count ≤ 1000000000000
+  pub queue : r .queue ≤ 1000000000000
+  pub limit : r .limit ≤ 200
+  pub compliance : r .compliance ≤ 1000
+  pub rate : r .rate ≤ 300000
+  pub target : r .target ≤ 199
+  pub gain : r .gain ≤ 60000
+  pub least : r .least ≤ s .most
+  pub interval : r .kind ≡ alineaKind → 0 < r .interval
+  pub low : T (le (real 1000) (r .speed))
+  pub high : T (le (r .speed) (real f))
+
+-- the network in the first 2,560 words is within rows 4, 6, 7 and 8
+abbrev pub NetworkOk : List ℕ → Type 0
+NetworkOk words = RowsWithin (headIn (netOf words)) (entryIn (netOf words)) (segmentIn (netOf words))
+
+-- a case of n segments at at and from, on the network in the first 2,560 words, whose size n is
+pub record CaseAt (words : List ℕ) (speeds : List Float) (at from n : ℕ) : Type 0 where
+  pub net : NetworkOk words
+  pub size : n ≡ headIn (netOf words) .size
+  pub past : 2560 ≤ at
+  pub room : at + 16 * n + 8 ≤ length words
+  pub lane : from + n ≤ length speeds
+
+-- the whole step: the network in the first 2,560 words, n its size, a case at at and from, n arrivals
+pub record Ready (words : List ℕ) (speeds : List Float) (ds : List ℕ) (at from n : ℕ) : Type 0 where
+  pub net : NetworkOk words
+  pub size : n ≡ headIn (netOf words) .size
+  pub past : 2560 ≤ at
+  pub room : at + 16 * n ≤ length words
+  pub lane : from + n ≤ length speeds
+  pub arrivals : length ds ≡ n
+  pub row : (i : ℕ) → i < n → RowOk (segmentIn (netOf words) i) (entryIn (netOf words) (segmentIn (netOf words) i .curve) 0) (rowAt words speeds at from i)
+  pub arrival : (i : ℕ) → i < n → getD ds i 0 ≤ 1000000
+
+-- totals that a step can add to; a sound case's are lower
+pub record TotalsOk (words : List ℕ) (e : ℕ) : Type 0 where
+  pub room : e + 8 ≤ length words
+  pub steps : getD words e 0 ≤ 20000
+  pub arrivals : getD words (e + 1) 0 ≤ 1000000000000000000
+  pub exits : getD words (e + 2) 0 ≤ 1000000000000000000
+  pub time : getD words (e + 3) 0 ≤ 1000000000000000000
+
+-- ---- one segment, from the network's words, the words from its row on and what was carried along
+
+unfoldable pub afterIn : List ℕ → List ℕ → ℕ → ℕ → Segment → ℕ → Float
+afterIn net rest i n s count =
+    cond (ltb (i + 1) n)
+    (real (getD rest 16 0) ⊘ real (area (segmentIn net (i + 1))))
+    (cond (ltb count (s .critical * area s)) (real count ⊘ real (area s)) (real (s .critical)))
+
+unfoldable pub freshIn : List ℕ → List ℕ → Float → ℕ → ℕ → ℕ → ℕ → ℕ → Float → Row
+freshIn net rest v d i n t passed before =
+    let s = segmentIn net i in
+    made (headIn net) s (entryIn net (s .curve) 0) (rowIn rest v) t d (eqb (s .origin) 1 && ltb 0 i)
+    (record {
+      passed = passed;
+      before = before;
+      after = afterIn net rest i n s (rowIn rest v .count);
+      want = desiredSpeed (entryIn net (s .curve)) s (rowIn rest v);
+    })
+
+pub record FreshOk (words : List ℕ) (a : ℕ) (v : Float) (d i n pass : ℕ) : Type 0 where
+  pub net : NetworkOk words
+  pub size : n ≡ headIn (netOf words) .size
+  pub long : 2560 ≤ length words
+  pub more : i < n
+  pub room : a + 16 * (n - i) ≤ length words
+  pub next : i + 1 < n → getD (drop a words) 16 0 ≤ 1000000000000
+  pub arrival : d ≤ 1000000
+  pub passed : pass ≤ 1000000000000
+  pub row : RowOk (segmentIn (netOf words) i) (entryIn (netOf words) (segmentIn (netOf words) i .curve) 0) (rowIn (drop a words) v)
+
+-- what a step of the rows leaves, and what it counts out: at most 40 exit parts and what leaves after the last segment
+pub record Stepped (words : List ℕ) (speeds : List Float) (ds : List ℕ) (at from n t : ℕ) (words' : List ℕ) (speeds' : List Float) (left : ℕ) : Type 0 where
+  pub makes : words' ≡ stepWords words speeds at from n t ds
+  pub paces : speeds' ≡ stepSpeeds words speeds at from n t ds
+  pub leaves : left ≡ leaving words speeds at from n
+  pub bound : left ≤ 41 * 1000000000000
+
+abbrev pub vehiclesAt : List ℕ → ℕ → ℕ → ℕ
+vehiclesAt words at i = getD words (at + 16 * i) 0 + getD words (at + 16 * i + 1) 0

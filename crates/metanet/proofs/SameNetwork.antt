@@ -1,0 +1,133 @@
+-- A step, and the rows that judge a case and a step, look at nothing of a network but what its head says is there: networks that agree on
+-- that give the same.
+use Prim.Native.Nat.{ℕ, zero, suc, _+_, _*_, _/_, _≤_, _<_}
+use mathlib.Core.Path.{_≡_, refl, ap, _∙_}
+use mathlib.Core.Bool.{Bool, true, false, _&&_, _||_, not}
+use mathlib.Core.List.{List}
+use native.Mathlib.Omega.{arith}
+use lib.Dec.{ltb, leb, eqb, lit<}
+use lib.ListN.{length, getD}
+use lib.Ieee.{Float}
+use borrow.Author.Tests.{ltb-true, leb-false}
+use Rattle.laws.specs.First.{row, first}
+use Rattle.laws.specs.Sums.{sumOf}
+use Rattle.laws.proofs.First.{firstOf-ext}
+use Rattle.laws.proofs.Lists.{table-ext}
+use Rattle.laws.proofs.Sums.{sum-ext}
+use Rattle.format.specs.declared.Head.{Head}
+use Rattle.format.specs.declared.Segment.{Segment}
+use Rattle.format.specs.Network.{Network, networkFrom, entryOf, segmentOf}
+use Rattle.format.proofs.From.{from-entry, from-segment}
+use Rattle.metanet.specs.declared.Row.{Row}
+use Rattle.metanet.specs.Case.{Case, rowOf}
+use Rattle.metanet.specs.Flow.{exitPart}
+use Rattle.metanet.specs.Speed.{area, curveSpeed, signed}
+use Rattle.metanet.specs.Step.{signOf, desiredSpeed, outflowNow, through, made, vehiclesIn, upstream, inflow, downstream, freeSpeed, merges, stepRow, stepRows, exitNow, exitsNow, stepOn, stepCase}
+use Rattle.metanet.specs.Sound.{stepsMost, rowBad, totalsBad, rowNumber, caseNumber, arrivalNumber, stepNumber}
+
+-- the speed of a curve, from the entries up to 200
+curve-speed-same : (e f : ℕ → ℕ) (n g : ℕ) → ((j : ℕ) → j < 201 → e j ≡ f j) → curveSpeed e n g ≡ curveSpeed f n g
+curve-speed-same e f n g same = go (leb 200 (n / g)) refl
+  where
+    go : (b : Bool) → leb 200 (n / g) ≡ b → curveSpeed e n g ≡ curveSpeed f n g
+    go true q = simp (q, same 200 (lit< tt))
+    go false q = let l = leb-false 200 (n / g) q in simp (q, same (n / g) (omega arith), same (n / g + 1) (omega arith))
+
+module _ (h : Head) (e f : ℕ → ℕ → ℕ) (s u : ℕ → Segment)
+    (entries : (k j : ℕ) → k < h .curves → j < 201 → e k j ≡ f k j) (segments : (i : ℕ) → i < h .size → s i ≡ u i)
+    (curves : (i : ℕ) → i < h .size → s i .curve < h .curves) where
+  free-same : (i : ℕ) → i < h .size → freeSpeed h e s i ≡ freeSpeed h f u i
+  free-same i l = entries (s i .curve) 0 (curves i l) (lit< tt) ∙ ap (λ (x : Segment). f (x .curve) 0) (segments i l)
+
+  want-same : (r : Row) (i : ℕ) → i < h .size → desiredSpeed (e (s i .curve)) (s i) r ≡ desiredSpeed (f (u i .curve)) (u i) r
+  unfolding desiredSpeed
+  want-same r i l =
+      ap (λ (v : Float). signed v (signOf r)) (curve-speed-same (e (s i .curve)) (f (s i .curve)) (r .count) (area (s i)) (λ j m. entries (s i .curve) j (curves i l) m))
+      ∙ ap (λ (x : Segment). signed (curveSpeed (f (x .curve)) (r .count) (area x)) (signOf r)) (segments i l)
+
+  module _ (rows : List Row) where
+    inflow-same : (i : ℕ) → i ≤ h .size → inflow h e s rows i ≡ inflow h f u rows i
+    unfolding inflow
+    inflow-same zero l = refl
+    inflow-same (suc i) l = ap (λ (x : Segment). through h x (rowOf rows i)) (segments i l)
+
+    down-same : (i : ℕ) → i < h .size → downstream h e s rows i ≡ downstream h f u rows i
+    unfolding downstream
+    down-same i l = go (ltb (i + 1) (h .size)) refl
+      where
+        go : (b : Bool) → ltb (i + 1) (h .size) ≡ b → downstream h e s rows i ≡ downstream h f u rows i
+        go true q = simp (q, segments (i + 1) (ltb-true (i + 1) (h .size) q))
+        go false q = simp (q, segments i l)
+
+    row-same : (t : ℕ) (ds : List ℕ) (i : ℕ) → i < h .size → stepRow h e s rows t ds i ≡ stepRow h f u rows t ds i
+    unfolding stepRow
+    row-same t ds i l =
+        λ j. made h (segments i l j) (free-same i l j) (rowOf rows i) t (getD ds i 0) (merges h f (λ k. segments i l j) i)
+        (record { passed = inflow-same i (omega arith) j; before = upstream rows i; after = down-same i l j; want = want-same (rowOf rows i) i l j })
+
+    exit-same : (i : ℕ) → i < h .size → exitNow h e s rows i ≡ exitNow h f u rows i
+    exit-same i l = ap (λ (x : Segment). exitPart (outflowNow h x (rowOf rows i)) (x .exit)) (segments i l)
+
+    exits-same : exitsNow h e s rows ≡ exitsNow h f u rows
+    exits-same = λ j. sum-ext (exitNow h e s rows) (exitNow h f u rows) (h .size) exit-same j + inflow-same (h .size) (omega arith) j
+
+  -- ---- what judges a case, and a step's arrivals
+  row-number-same : (rows : List Row) (i : ℕ) → i < h .size → rowNumber h e s rows i ≡ rowNumber h f u rows i
+  unfolding rowNumber
+  row-number-same rows i l = λ j. row (rowBad (merges h f (λ k. segments i l j) i) (segments i l j) (free-same i l j) (rowOf rows i)) 12 0
+
+  pub case-number-same : (c : Case) → caseNumber h e s c ≡ caseNumber h f u c
+  unfolding caseNumber
+  case-number-same c =
+      ap (λ (m : ℕ). first m (row (totalsBad (sumOf (vehiclesIn (c .rows)) (h .size)) (c .steps) (c .arrivals) (c .exits) (c .time)) 12 0))
+      (firstOf-ext (rowNumber h e s (c .rows)) (rowNumber h f u (c .rows)) (h .size) (row-number-same (c .rows)))
+
+  arrival-number-same : (ds : List ℕ) (i : ℕ) → i < h .size → arrivalNumber h e s ds i ≡ arrivalNumber h f u ds i
+  unfolding arrivalNumber
+  arrival-number-same ds i l =
+      ap (λ (x : Segment). row (ltb 1000000 (getD ds i 0) || (eqb (x .origin) 0 && ltb 0 (getD ds i 0))) 15 0) (segments i l)
+
+  pub step-number-same : (steps : ℕ) (ds : List ℕ) → stepNumber h e s steps ds ≡ stepNumber h f u steps ds
+  unfolding stepNumber
+  step-number-same steps ds =
+      ap (λ (m : ℕ). row (not (eqb (length ds) (h .size))) 13 (first m (row (leb stepsMost steps) 16 0)))
+      (firstOf-ext (arrivalNumber h e s ds) (arrivalNumber h f u ds) (h .size) (arrival-number-same ds))
+
+  pub step-same : (c : Case) (ds : List ℕ) → stepOn h e s c ds ≡ stepOn h f u c ds
+  unfolding stepOn stepRows
+  step-same c ds =
+      λ j. record {
+        rows = table-ext (stepRow h e s (c .rows) (c .steps) ds) (stepRow h f u (c .rows) (c .steps) ds) (h .size) (row-same (c .rows) (c .steps) ds) j;
+        steps = c .steps + 1;
+        arrivals = c .arrivals + sumOf (λ i. getD ds i 0) (h .size);
+        exits = c .exits + exits-same (c .rows) j;
+        time = c .time + h .step * sumOf (vehiclesIn (c .rows)) (h .size);
+      }
+
+-- ---- the network that is given by head, entries and segments
+
+module _ (h : Head) (entry : ℕ → ℕ → ℕ) (segment : ℕ → Segment) (curves : (i : ℕ) → i < h .size → segment i .curve < h .curves) where
+  abbrev given : Network
+  given = networkFrom h entry segment
+
+  curve-there : (i : ℕ) → i < h .size → segmentOf given i .curve < h .curves
+  curve-there i l = rw (from-segment h entry segment i l) (curves i l)
+
+  -- a step on it
+  pub step-from : (c : Case) (ds : List ℕ) → stepCase given c ds ≡ stepOn h entry segment c ds
+  unfolding networkFrom
+  step-from c ds =
+      step-same h (entryOf given) entry (segmentOf given) segment (from-entry h entry segment) (from-segment h entry segment) curve-there c ds
+
+  -- 12 of a case on it
+  pub case-number-from : (c : Case) → caseNumber (given .head) (entryOf given) (segmentOf given) c ≡ caseNumber h entry segment c
+  unfolding networkFrom
+  case-number-from c =
+      case-number-same h (entryOf given) entry (segmentOf given) segment (from-entry h entry segment) (from-segment h entry segment) curve-there c
+
+  -- 13, 15 and 16 of a step on it
+  pub step-number-from : (steps : ℕ) (ds : List ℕ)
+      → stepNumber (given .head) (entryOf given) (segmentOf given) steps ds ≡ stepNumber h entry segment steps ds
+  unfolding networkFrom
+  step-number-from steps ds =
+      step-number-same h (entryOf given) entry (segmentOf given) segment (from-entry h entry segment) (from-segment h entry segment) curve-there steps ds

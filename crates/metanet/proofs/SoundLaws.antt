@@ -1,0 +1,225 @@
+-- What the soundness of a case says.
+use Prim.Native.Nat.{ℕ, _+_, _*_, _≤_, _<_}
+use mathlib.Core.Path.{_≡_, refl, sym, ap, _∙_, subst}
+use mathlib.Core.Bool.{Bool, true, false, cond, not, _||_, true≢false}
+use mathlib.Core.List.{List}
+use native.Mathlib.Omega.{arith}
+use native.Mathlib.Nat.{add-zero, le-of-eq}
+use lib.Seq.{getD-drop}
+use lib.Dec.{T, ltb, eqb}
+use lib.ListN.{length, getD}
+use lib.Ieee.{Float, le}
+use borrow.Author.Tests.{ltb-false, eqb-true, not-false}
+use Rattle.laws.specs.First.{outside, row, first}
+use Rattle.laws.specs.Real.{real}
+use Rattle.laws.specs.Sums.{sumOf}
+use Rattle.laws.proofs.First.{row-passed, row-later, first-some, first-zero, first-zero-left, first-zero-right, firstOf-zero}
+use Rattle.laws.specs.First.{firstOf}
+use Rattle.laws.proofs.Sums.{sum-ext}
+use Rattle.laws.proofs.Lists.{getD-table}
+use Rattle.format.specs.Words.{headIn, entryIn, segmentIn}
+use Rattle.laws.proofs.Tests.{or-left, or-right, and-left, and-right, anyOf-false, inside-low, inside-high}
+use Rattle.format.specs.declared.Segment.{Segment}
+use Rattle.metanet.specs.declared.Row.{Row}
+use Rattle.metanet.specs.Case.{noRow, rowOf, alineaKind}
+use Rattle.metanet.specs.Step.{vehiclesIn, freeSpeed, merges}
+use Rattle.metanet.specs.Words.{netOf, rowIn, rowAt, rowsIn, caseIn}
+use Rattle.metanet.proofs.Ready.{RowOk, CaseAt, Ready, TotalsOk, vehiclesAt}
+use Rattle.metanet.proofs.SegmentLaws.{segment-ok}
+use Rattle.metanet.specs.Sound.{signBad, hasAlinea, openBad, fixedBad, alineaBad, settingBad, speedBad, rowBad, totalsBad, rowNumber, caseNumber, arrivalNumber, stepNumber}
+
+pub row-read : (words : List ℕ) (speeds : List Float) (at from n i : ℕ) → i < n → rowOf (rowsIn words speeds at from n) i ≡ rowAt words speeds at from i
+unfolding rowsIn
+row-read words speeds at from n i h = getD-table (rowAt words speeds at from) n i noRow h
+
+-- the mv of a case, read in the words
+pub vehicles-are : (words : List ℕ) (speeds : List Float) (at from n i : ℕ) → i < n → vehiclesAt words at i ≡ vehiclesIn (rowsIn words speeds at from n) i
+unfolding rowIn
+vehicles-are words speeds at from n i l = simp (row-read words speeds at from n i l, getD-drop, add-zero)
+
+pub vehicles-sum : (words : List ℕ) (speeds : List Float) (at from n : ℕ) → sumOf (vehiclesAt words at) n ≡ sumOf (vehiclesIn (rowsIn words speeds at from n)) n
+vehicles-sum words speeds at from n = sum-ext (vehiclesAt words at) (vehiclesIn (rowsIn words speeds at from n)) n (vehicles-are words speeds at from n)
+
+-- ---- what a row that is not bad says
+
+truth : {b : Bool} → b ≡ true → T b
+truth e = subst T (sym e) tt
+
+sign-limits : (b : Bool) (l a : ℕ) → eqb l 0 ≡ b → cond b (ltb 0 a) (outside 20 l 200 || ltb 1000 a) ≡ false → (l ≤ 200) × (a ≤ 1000)
+sign-limits true l a e z = (omega (arith, eqb-true l 0 e), omega (arith, ltb-false 0 a z))
+sign-limits false l a e z =
+    (inside-high 20 l 200 (or-left (outside 20 l 200) (ltb 1000 a) z), ltb-false 1000 a (or-right (outside 20 l 200) (ltb 1000 a) z))
+
+-- the figures of a setting
+record Setting (s : Segment) (r : Row) : Type 0 where
+  rate : r .rate ≤ s .most
+  target : r .target ≤ 199
+  gain : r .gain ≤ 60000
+  least : r .least ≤ s .most
+  interval : r .kind ≡ alineaKind → 0 < r .interval
+
+module _ (s : Segment) (r : Row) where
+  -- of a setting that is not ALINEA's
+  plain : hasAlinea r ≡ false → r .rate ≤ s .most → (r .kind ≡ alineaKind → ⊥) → Setting s r
+  unfolding hasAlinea
+  plain z rate other =
+      let no = anyOf-false _ z in
+      record {
+        rate = rate;
+        target = omega (arith, ltb-false 0 (r .target) (no 0));
+        gain = omega (arith, ltb-false 0 (r .gain) (no 1));
+        least = omega (arith, ltb-false 0 (r .least) (no 2));
+        interval = λ e. absurd (other e);
+      }
+
+  open-setting : (r .kind ≡ alineaKind → ⊥) → openBad s r ≡ false → Setting s r
+  unfolding openBad
+  open-setting other z =
+      plain (or-left (hasAlinea r) _ z) (le-of-eq (eqb-true (r .rate) (s .most) (not-false _ (or-right (hasAlinea r) (not (eqb (r .rate) (s .most))) z)))) other
+
+  fixed-setting : (r .kind ≡ alineaKind → ⊥) → fixedBad s r ≡ false → Setting s r
+  unfolding fixedBad
+  fixed-setting other z = plain (or-left (hasAlinea r) _ z) (ltb-false _ _ (or-right (hasAlinea r) (ltb (s .most) (r .rate)) z)) other
+
+  alinea-setting : alineaBad s r ≡ false → Setting s r
+  unfolding alineaBad
+  alinea-setting z =
+      let no = anyOf-false _ z in
+      record {
+        rate = inside-high (r .least) (r .rate) (s .most) (no 4);
+        target = inside-high 1 (r .target) 199 (no 0);
+        gain = inside-high 1 (r .gain) 60000 (no 1);
+        least = ltb-false _ _ (no 2);
+        interval = λ e. inside-low 1 (r .interval) 60 (no 3);
+      }
+
+  pick-setting : (m a b c : Bool) → eqb (r .kind) 0 ≡ a → eqb (r .kind) 1 ≡ b → eqb (r .kind) 2 ≡ c
+      → cond a (openBad s r) (cond b (not m || fixedBad s r) (cond c (not m || alineaBad s r) true)) ≡ false → Setting s r
+  pick-setting m true b c p q t z = open-setting (λ e. omega (arith, e, eqb-true (r .kind) 0 p)) z
+  pick-setting m false true c p q t z = fixed-setting (λ e. omega (arith, e, eqb-true (r .kind) 1 q)) (or-right (not m) (fixedBad s r) z)
+  pick-setting m false false true p q t z = alinea-setting (or-right (not m) (alineaBad s r) z)
+  pick-setting m false false false p q t z = absurd (true≢false z)
+
+  setting-of : (m : Bool) → settingBad m s r ≡ false → Setting s r
+  unfolding settingBad
+  setting-of m z = pick-setting m _ _ _ refl refl refl z
+
+  pub row-ok : (m : Bool) (f : ℕ) → s .most ≤ 300000 → rowBad m s f r ≡ false → RowOk s f r
+  unfolding rowBad signBad speedBad
+  row-ok m f most z =
+      let no = anyOf-false _ z in
+      let sign = sign-limits _ (r .limit) (r .compliance) refl (no 4) in
+      let setting = setting-of m (no 5) in
+      let speed = not-false _ (no 6) in
+      record {
+        count = ltb-false _ _ (no 0);
+        queue = ltb-false _ _ (no 1);
+        limit = sign .0;
+        compliance = sign .1;
+        rate = omega (arith, setting .rate);
+        target = setting .target;
+        gain = setting .gain;
+        least = setting .least;
+        interval = setting .interval;
+        low = truth (and-left (le (real 1000) (r .speed)) (le (r .speed) (real f)) speed);
+        high = truth (and-right (le (real 1000) (r .speed)) (le (r .speed) (real f)) speed);
+      }
+
+-- ---- what a sound case says
+
+module _ {words : List ℕ} {speeds : List Float} {at from n : ℕ} (at-place : CaseAt words speeds at from n) where
+  abbrev net : List ℕ
+  net = netOf words
+
+  abbrev rows : List Row
+  rows = rowsIn words speeds at from n
+
+  -- row i, where it passed
+  pub row-sound : (i : ℕ) → i < n → rowNumber (headIn net) (entryIn net) (segmentIn net) rows i ≡ 0
+      → RowOk (segmentIn net i) (entryIn net (segmentIn net i .curve) 0) (rowAt words speeds at from i)
+  unfolding rowNumber
+  row-sound i l z =
+      let S = segment-ok (at-place .net) i (omega (arith, at-place .size)) in
+      let h = headIn net in
+      let e = entryIn net in
+      let s = segmentIn net in
+      rw (row-read words speeds at from n i l) at (row-ok (s i) (rowOf rows i) (merges h e s i) (freeSpeed h e s i) (S .most-high) (row-passed _ _ _ z))
+
+  module _ (z : firstOf (rowNumber (headIn net) (entryIn net) (segmentIn net) rows) n ≡ 0) where
+    pub rows-sound : (i : ℕ) → i < n → RowOk (segmentIn net i) (entryIn net (segmentIn net i .curve) 0) (rowAt words speeds at from i)
+    rows-sound i l = row-sound i l (firstOf-zero _ n z i l)
+
+    pub vehicles-each : (i : ℕ) → i < n → vehiclesAt words at i ≤ 2000000000000
+    vehicles-each i l = rw (vehicles-are words speeds at from n i l) (rw (row-read words speeds at from n i l) (omega (arith, rows-sound i l .count, rows-sound i l .queue)))
+
+    -- the totals' place holds the case's totals
+    pub totals-sound : row (totalsBad (sumOf (vehiclesIn rows) n) (getD words (at + 16 * n) 0) (getD words (at + 16 * n + 1) 0) (getD words (at + 16 * n + 2) 0) (getD words (at + 16 * n + 3) 0)) 12 0 ≡ 0
+        → TotalsOk words (at + 16 * n)
+    unfolding totalsBad
+    totals-sound q =
+        let no = anyOf-false _ (row-passed _ _ _ q) in
+        record {
+          room = at-place .room;
+          steps = ltb-false _ _ (no 4);
+          arrivals = omega (arith, ltb-false 1000000000000 (getD words (at + 16 * n + 1) 0) (no 1));
+          exits = omega (arith, ltb-false 1000000000000 (getD words (at + 16 * n + 2) 0) (no 2));
+          time = ltb-false _ _ (no 3);
+        }
+
+  -- ---- the case's number, by the code's two tests
+  abbrev inRows : ℕ
+  inRows = firstOf (rowNumber (headIn net) (entryIn net) (segmentIn net) rows) n
+
+  abbrev inTotals : ℕ → ℕ
+  inTotals held = row (totalsBad held (getD words (at + 16 * n) 0) (getD words (at + 16 * n + 1) 0) (getD words (at + 16 * n + 2) 0) (getD words (at + 16 * n + 3) 0)) 12 0
+
+  abbrev number : ℕ
+  number = caseNumber (headIn net) (entryIn net) (segmentIn net) (caseIn words speeds at from n)
+
+  number-is : number ≡ first inRows (inTotals (sumOf (vehiclesIn rows) n))
+  unfolding caseNumber caseIn
+  number-is =
+      λ j. first (firstOf (rowNumber (headIn net) (entryIn net) (segmentIn net) rows) (sym (at-place .size) j))
+      (row (totalsBad (sumOf (vehiclesIn rows) (sym (at-place .size) j)) (getD words (at + 16 * n) 0) (getD words (at + 16 * n + 1) 0) (getD words (at + 16 * n + 2) 0) (getD words (at + 16 * n + 3) 0)) 12 0)
+
+  pub case-rows : {r : ℕ} → r ≡ inRows → (r ≡ 0 → ⊥) → r ≡ number
+  case-rows e some = e ∙ sym (number-is ∙ first-some _ _ (λ z. some (e ∙ z)))
+
+  pub case-totals : {r held : ℕ} → inRows ≡ 0 → held ≡ sumOf (vehiclesAt words at) n → r ≡ inTotals held → r ≡ number
+  case-totals z is e = e ∙ ap inTotals (is ∙ vehicles-sum words speeds at from n) ∙ sym (number-is ∙ first-zero _ _ z)
+
+  -- what a sound case says of its rows and totals
+  module _ (z : number ≡ 0) where
+    rows-zero : inRows ≡ 0
+    rows-zero = first-zero-left _ _ (sym number-is ∙ z)
+
+    pub case-row : (i : ℕ) → i < n → RowOk (segmentIn net i) (entryIn net (segmentIn net i .curve) 0) (rowAt words speeds at from i)
+    case-row = rows-sound rows-zero
+
+    pub case-total : TotalsOk words (at + 16 * n)
+    case-total = totals-sound rows-zero (first-zero-right inRows _ (sym number-is ∙ z))
+
+    -- and with arrivals that no row refuses, a step of it can be made
+    module _ (steps : ℕ) (ds : List ℕ) (q : stepNumber (headIn net) (entryIn net) (segmentIn net) steps ds ≡ 0) where
+      many : length ds ≡ n
+      unfolding stepNumber
+      many = eqb-true _ _ (not-false _ (row-passed _ _ _ q)) ∙ sym (at-place .size)
+
+      arrival : (i : ℕ) → i < n → getD ds i 0 ≤ 1000000
+      unfolding stepNumber arrivalNumber
+      arrival i l =
+          let all = firstOf-zero (arrivalNumber (headIn net) (entryIn net) (segmentIn net) ds) _ (first-zero-left _ _ (row-later _ _ _ q)) i (omega (arith, at-place .size)) in
+          ltb-false _ _ (or-left (ltb 1000000 (getD ds i 0)) _ (row-passed _ _ _ all))
+
+      pub case-ready : Ready words speeds ds at from n
+      case-ready =
+          record {
+            net = at-place .net;
+            size = at-place .size;
+            past = at-place .past;
+            room = omega (arith, at-place .room);
+            lane = at-place .lane;
+            arrivals = many;
+            row = case-row;
+            arrival = arrival;
+          }

@@ -1,0 +1,11 @@
+pub mod Case
+pub mod Flow
+pub mod Speed
+pub mod Step
+pub mod Start
+pub mod Change
+pub mod Line
+pub mod Report
+pub mod Words
+pub mod Sound
+pub mod Marked

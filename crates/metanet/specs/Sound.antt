@@ -1,0 +1,138 @@
+-- A sound case, and the rows of the table that judge a step on it: 12, 13, 15 and 16.
+use Prim.Native.Nat.{ℕ}
+use mathlib.Core.Bool.{Bool, true, cond, not, _&&_, _||_}
+use mathlib.Core.List.{List, [], _∷_}
+use lib.Dec.{ltb, leb, eqb}
+use lib.ListN.{length, getD}
+use lib.Ieee.{Float, le}
+use Rattle.laws.specs.First.{outside, anyOf, row, first, firstOf}
+use Rattle.laws.specs.Real.{real}
+use Rattle.laws.specs.Sums.{sumOf}
+use Rattle.format.specs.declared.Head.{Head}
+use Rattle.format.specs.declared.Segment.{Segment}
+use Rattle.format.specs.Words.{headIn, entryIn, segmentIn}
+use Rattle.metanet.specs.declared.Row.{Row}
+use Rattle.metanet.specs.Case.{Case, openKind, fixedKind, alineaKind, rowOf}
+use Rattle.metanet.specs.Step.{vehiclesIn, freeSpeed, merges}
+use Rattle.metanet.specs.Words.{netOf, rowsIn, caseIn}
+
+-- every mv figure and each case's mv in all ≤ 10¹², time ≤ 10¹⁸, steps ≤ 20,000
+abbrev pub mvMost : ℕ
+mvMost = 1000000000000
+
+abbrev pub timeMost : ℕ
+timeMost = 1000000000000000000
+
+abbrev pub stepsMost : ℕ
+stepsMost = 20000
+
+-- ---- signs, settings and rates as their calls permit
+
+-- a dark sign keeps no compliance; a shown one has a limit of 20..200 and a compliance of −500..500, kept with 500 added
+unfoldable pub signBad : Row → Bool
+signBad r = cond (eqb (r .limit) 0) (ltb 0 (r .compliance)) (outside 20 (r .limit) 200 || ltb 1000 (r .compliance))
+
+-- the figures of a setting that only ALINEA has
+unfoldable pub hasAlinea : Row → Bool
+hasAlinea r = anyOf (ltb 0 (r .target) ∷ ltb 0 (r .gain) ∷ ltb 0 (r .least) ∷ ltb 0 (r .interval) ∷ [])
+
+-- open: R is Q, and the figures that only ALINEA has are 0
+unfoldable pub openBad : Segment → Row → Bool
+unfolding hasAlinea
+openBad s r = hasAlinea r || not (eqb (r .rate) (s .most))
+
+-- fixed at 0..Q, and the figures that only ALINEA has are 0
+unfoldable pub fixedBad : Segment → Row → Bool
+unfolding hasAlinea
+fixedBad s r = hasAlinea r || ltb (s .most) (r .rate)
+
+-- target 1..199, gain 1..60,000 mv, least 0..Q, z 1..60 steps, R in least..Q
+unfoldable pub alineaBad : Segment → Row → Bool
+alineaBad s r =
+    anyOf
+    (outside 1 (r .target) 199
+    ∷ outside 1 (r .gain) 60000
+    ∷ ltb (s .most) (r .least)
+    ∷ outside 1 (r .interval) 60
+    ∷ outside (r .least) (r .rate) (s .most)
+    ∷ [])
+
+-- only an origin past segment 1 is metered: m says whether segment i is one. Every code is one that the arrangement names
+unfoldable pub settingBad : Bool → Segment → Row → Bool
+unfolding openBad fixedBad alineaBad
+settingBad m s r =
+    cond (eqb (r .kind) openKind) (openBad s r)
+    (cond (eqb (r .kind) fixedKind) (not m || fixedBad s r)
+    (cond (eqb (r .kind) alineaKind) (not m || alineaBad s r) true))
+
+-- speeds in 1,000..F
+unfoldable pub speedBad : ℕ → Float → Bool
+speedBad f v = not (le (real 1000) v && le v (real f))
+
+-- one segment's part of a case
+unfoldable pub rowBad : Bool → Segment → ℕ → Row → Bool
+unfolding signBad settingBad speedBad
+rowBad m s f r =
+    anyOf
+    (ltb mvMost (r .count)
+    ∷ ltb mvMost (r .queue)
+    ∷ ltb mvMost (r .outflow)
+    ∷ ltb mvMost (r .release)
+    ∷ signBad r
+    ∷ settingBad m s r
+    ∷ speedBad f (r .speed)
+    ∷ [])
+
+-- held is the mv in segments and queues
+unfoldable pub totalsBad : ℕ → ℕ → ℕ → ℕ → ℕ → Bool
+totalsBad held steps arrivals exits time =
+    anyOf
+    (ltb mvMost held
+    ∷ ltb mvMost arrivals
+    ∷ ltb mvMost exits
+    ∷ ltb timeMost time
+    ∷ ltb stepsMost steps
+    ∷ [])
+
+-- ---- on a network with the head h, the entries entry k j and the segments segment i
+
+module _ (h : Head) (entry : ℕ → ℕ → ℕ) (segment : ℕ → Segment) where
+  -- 12, of row i of a case
+  unfoldable pub rowNumber : List Row → ℕ → ℕ
+  unfolding rowBad
+  rowNumber rows i = row (rowBad (merges h entry segment i) (segment i) (freeSpeed h entry segment i) (rowOf rows i)) 12 0
+
+  -- 12 case not sound
+  unfoldable pub caseNumber : Case → ℕ
+  unfolding rowNumber totalsBad
+  caseNumber c =
+      first (firstOf (rowNumber (c .rows)) (h .size)) (row (totalsBad (sumOf (vehiclesIn (c .rows)) (h .size)) (c .steps) (c .arrivals) (c .exits) (c .time)) 12 0)
+
+  -- 15 arrival > 1,000,000 or not 0 without origin
+  unfoldable pub arrivalNumber : List ℕ → ℕ → ℕ
+  arrivalNumber ds i = row (ltb 1000000 (getD ds i 0) || (eqb (segment i .origin) 0 && ltb 0 (getD ds i 0))) 15 0
+
+  -- 13 list length; 15; 16 20,000 steps on the line, of which there are this many. The run count is the study's
+  unfoldable pub stepNumber : ℕ → List ℕ → ℕ
+  unfolding arrivalNumber
+  stepNumber steps ds =
+      row (not (eqb (length ds) (h .size))) 13
+      (first (firstOf (arrivalNumber ds) (h .size)) (row (leb stepsMost steps) 16 0))
+
+-- ---- the same of a case and a network in the words; net is the network's words
+
+abbrev pub rowNumberIn : List ℕ → List Float → ℕ → ℕ → ℕ → ℕ → ℕ
+rowNumberIn words speeds at from n i =
+    let net = netOf words in
+    rowNumber (headIn net) (entryIn net) (segmentIn net) (rowsIn words speeds at from n) i
+
+abbrev pub caseNumberIn : List ℕ → List Float → ℕ → ℕ → ℕ → ℕ
+caseNumberIn words speeds at from n =
+    let net = netOf words in
+    caseNumber (headIn net) (entryIn net) (segmentIn net) (caseIn words speeds at from n)
+
+abbrev pub arrivalNumberIn : List ℕ → List ℕ → ℕ → ℕ
+arrivalNumberIn net ds i = arrivalNumber (headIn net) (entryIn net) (segmentIn net) ds i
+
+abbrev pub stepNumberIn : List ℕ → ℕ → List ℕ → ℕ
+stepNumberIn net steps ds = stepNumber (headIn net) (entryIn net) (segmentIn net) steps ds

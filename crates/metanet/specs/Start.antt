@@ -1,0 +1,65 @@
+-- What Start makes of its lists: the case that it puts in, and the rows of the table that judge them.
+use Prim.Native.Nat.{ℕ, _+_, _*_}
+use mathlib.Core.Bool.{_&&_, not}
+use mathlib.Core.List.{List, [], _∷_}
+use lib.Dec.{ltb, eqb}
+use lib.ListN.{length, getD}
+use Rattle.laws.specs.First.{anyOf, outside, row, firstOf}
+use Rattle.laws.specs.Lists.{table}
+use Rattle.laws.specs.Real.{real}
+use Rattle.laws.specs.Sums.{sumOf}
+use Rattle.format.specs.declared.Segment.{Segment}
+use Rattle.format.specs.Network.{Network, entryOf, segmentOf}
+use Rattle.metanet.specs.declared.Row.{Row}
+use Rattle.metanet.specs.Case.{Case, openKind}
+use Rattle.metanet.specs.Speed.{area}
+
+-- ---- the case: all ramps open, signs dark, flows and totals 0; R of an open segment is its Q
+
+unfoldable pub startRow : Network → List ℕ → List ℕ → List ℕ → ℕ → Row
+startRow w mvs speeds queues i =
+    record {
+      count = getD mvs i 0;
+      queue = getD queues i 0;
+      limit = 0;
+      compliance = 0;
+      kind = openKind;
+      rate = segmentOf w i .most;
+      target = 0;
+      gain = 0;
+      least = 0;
+      interval = 0;
+      outflow = 0;
+      release = 0;
+      speed = real (getD speeds i 0);
+    }
+
+unfoldable pub startCase : Network → List ℕ → List ℕ → List ℕ → Case
+unfolding startRow
+startCase w mvs speeds queues =
+    record { rows = table (startRow w mvs speeds queues) (w .head .size); steps = 0; arrivals = 0; exits = 0; time = 0 }
+
+-- mv handed to Start: in segments and in queues
+abbrev pub handed : Network → List ℕ → List ℕ → ℕ
+handed w mvs queues = sumOf (λ i. getD mvs i 0) (w .head .size) + sumOf (λ i. getD queues i 0) (w .head .size)
+
+-- ---- 13 list length not n; 14 mv > J × G, speed outside 1,000..F, queue > 1,000,000 or not 0 without origin
+
+abbrev pub queueMost : ℕ
+queueMost = 1000000
+
+-- 14, of segment i, counted from 0; F is the first entry of its curve
+unfoldable pub startSegmentNumber : Segment → ℕ → ℕ → ℕ → ℕ → ℕ
+startSegmentNumber s F mv speed queue =
+    row
+    (anyOf (ltb (s .jam * area s) mv ∷ outside 1000 speed F ∷ ltb queueMost queue ∷ (eqb (s .origin) 0 && ltb 0 queue) ∷ []))
+    14 0
+
+unfoldable pub startNumber : Network → List ℕ → List ℕ → List ℕ → ℕ
+unfolding startSegmentNumber
+startNumber w mvs speeds queues =
+    let n = w .head .size in
+    row (anyOf (not (eqb (length mvs) n) ∷ not (eqb (length speeds) n) ∷ not (eqb (length queues) n) ∷ [])) 13
+    (firstOf
+    (λ i. startSegmentNumber (segmentOf w i) (entryOf w (segmentOf w i .curve) 0) (getD mvs i 0) (getD speeds i 0) (getD queues i 0))
+    n)

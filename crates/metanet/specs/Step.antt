@@ -1,0 +1,171 @@
+-- One step of a case. Every right side uses values from before the step, save the rates, releases and flows that this step itself
+-- makes. Differences are of natural numbers: in a sound case none would be below 0 (release ≤ w + d, exit part ≤ outflow ≤ N).
+use Prim.Native.Nat.{ℕ, zero, suc, _+_, _-_, _*_, _%_}
+use mathlib.Core.Bool.{Bool, cond, _&&_}
+use mathlib.Core.List.{List}
+use lib.ListN.{getD}
+use lib.Dec.{ltb, eqb}
+use lib.Ieee.{Float, toUnsigned}
+use Rattle.laws.specs.Lists.{table}
+use Rattle.laws.specs.Sums.{sumOf}
+use Rattle.laws.specs.Real.{real, _⊘_}
+use Rattle.format.specs.declared.Head.{Head}
+use Rattle.format.specs.declared.Segment.{Segment}
+use Rattle.format.specs.Network.{Network, entryOf, segmentOf}
+use Rattle.metanet.specs.declared.Row.{Row}
+use Rattle.metanet.specs.declared.Around.{Around}
+use Rattle.metanet.specs.declared.Sign.{Sign}
+use Rattle.metanet.specs.declared.Sign.the-variants.{Dark, Shown}
+use Rattle.metanet.specs.Case.{Case, openKind, alineaKind, rowOf}
+use Rattle.metanet.specs.Flow.{alineaRate, jamBound, releaseOf, outflowOf, exitPart}
+use Rattle.metanet.specs.Speed.{area, curveSpeed, signed, newSpeed}
+
+-- ---- one segment, from its own row
+
+-- density ρ is N ÷ G
+unfoldable pub density : Segment → Row → Float
+density s r = real (r .count) ⊘ real (area s)
+
+-- its speed, carried in binary64, is limit × (1000 + a); the compliance a is kept with 500 added
+unfoldable pub signOf : Row → Sign
+signOf r = cond (eqb (r .limit) 0) Dark (Shown (real (r .limit * (500 + r .compliance))))
+
+-- the desired speed V on a curve with the entries e, under the row's sign
+unfoldable pub desiredSpeed : (ℕ → ℕ) → Segment → Row → Float
+unfolding signOf
+desiredSpeed e s r = signed (curveSpeed e (r .count) (area s)) (signOf r)
+
+-- the rate R as reported: Q where open
+unfoldable pub rateOf : Segment → Row → ℕ
+rateOf s r = cond (eqb (r .kind) openKind) (s .most) (r .rate)
+
+-- 1. the rate that this step makes: ALINEA ramps whose interval divides t move theirs
+unfoldable pub rateNow : Segment → Row → ℕ → ℕ
+unfolding rateOf
+rateNow s r t =
+    cond (eqb (r .kind) alineaKind && eqb (t % r .interval) 0)
+    (alineaRate (r .rate) (r .gain) (r .target) (r .least) (s .most) (area s) (r .count))
+    (rateOf s r)
+
+-- 2. release = least of w + d; R; the jam bound
+unfoldable pub releaseNow : Segment → Row → ℕ → ℕ → ℕ
+unfolding rateNow
+releaseNow s r t d = releaseOf (r .queue + d) (rateNow s r t) (jamBound (s .most) (s .jam) (s .critical) (area s) (r .count))
+
+-- 3. the outflow; s is the whole part of v
+unfoldable pub outflowNow : Head → Segment → Row → ℕ
+outflowNow h s r = outflowOf (r .count) (toUnsigned 64 (r .speed)) (h .step) (s .metres)
+
+-- all the rest enters the next segment, or leaves after segment n
+unfoldable pub through : Head → Segment → Row → ℕ
+unfolding outflowNow
+through h s r = outflowNow h s r - exitPart (outflowNow h s r) (s .exit)
+
+-- the new row, from what is around the segment
+unfoldable pub made : Head → Segment → ℕ → Row → ℕ → ℕ → Bool → Around → Row
+unfolding density rateNow releaseNow outflowNow
+made h s f r t d merges o =
+    record {
+      -- 4. N + release + what the segment before passes on − outflow
+      count = r .count + releaseNow s r t d + o .passed - outflowNow h s r;
+      -- w + d − release
+      queue = r .queue + d - releaseNow s r t d;
+      limit = r .limit;
+      compliance = r .compliance;
+      kind = r .kind;
+      rate = rateNow s r t;
+      target = r .target;
+      gain = r .gain;
+      least = r .least;
+      interval = r .interval;
+      outflow = outflowNow h s r;
+      release = releaseNow s r t d;
+      speed =
+          newSpeed h s f
+          (record { count = r .count; queue = r .queue; speed = r .speed; density = density s r; before = o .before; after = o .after })
+          (o .want) merges (releaseNow s r t d);
+    }
+
+-- ---- all segments, from their rows
+
+-- u is v of the segment before, v itself at segment 1
+unfoldable pub upstream : List Row → ℕ → Float
+upstream rows zero = rowOf rows 0 .speed
+upstream rows (suc i) = rowOf rows i .speed
+
+-- mv in a segment and its queue
+abbrev pub vehiclesIn : List Row → ℕ → ℕ
+vehiclesIn rows i = rowOf rows i .count + rowOf rows i .queue
+
+-- ---- all segments, on a network with the head h, the entries entry k j and the segments segment i
+
+module _ (h : Head) (entry : ℕ → ℕ → ℕ) (segment : ℕ → Segment) where
+  -- F is the first entry of the segment's curve
+  abbrev pub freeSpeed : ℕ → ℕ
+  freeSpeed i = entry (segment i .curve) 0
+
+  -- what the segment before passes on; past the last segment, what leaves there
+  unfoldable pub inflow : List Row → ℕ → ℕ
+  unfolding through
+  inflow rows zero = 0
+  inflow rows (suc i) = through h (segment i) (rowOf rows i)
+
+  -- ρ' is the density of the next segment; at segment n it is ρ if N < C × G, else C
+  unfoldable pub downstream : List Row → ℕ → Float
+  unfolding density
+  downstream rows i =
+      cond (ltb (i + 1) (h .size))
+      (density (segment (i + 1)) (rowOf rows (i + 1)))
+      (cond (ltb (rowOf rows i .count) (segment i .critical * area (segment i))) (density (segment i) (rowOf rows i)) (real (segment i .critical)))
+
+  -- E only at an origin past segment 1
+  abbrev pub merges : ℕ → Bool
+  merges i = eqb (segment i .origin) 1 && ltb 0 i
+
+  abbrev pub around : List Row → ℕ → Around
+  around rows i =
+      record {
+        passed = inflow rows i;
+        before = upstream rows i;
+        after = downstream rows i;
+        want = desiredSpeed (entry (segment i .curve)) (segment i) (rowOf rows i);
+      }
+
+  -- t is the number of steps on the line so far, ds are the arrivals
+  unfoldable pub stepRow : List Row → ℕ → List ℕ → ℕ → Row
+  unfolding made inflow upstream downstream desiredSpeed
+  stepRow rows t ds i = made h (segment i) (freeSpeed i) (rowOf rows i) t (getD ds i 0) (merges i) (around rows i)
+
+  -- the rows after the step
+  unfoldable pub stepRows : List Row → ℕ → List ℕ → List Row
+  unfolding stepRow table
+  stepRows rows t ds = table (stepRow rows t ds) (h .size)
+
+  -- ---- totals
+  -- the exit part of segment i
+  abbrev pub exitNow : List Row → ℕ → ℕ
+  exitNow rows i = exitPart (outflowNow h (segment i) (rowOf rows i)) (segment i .exit)
+
+  -- all exit parts, and what leaves after segment n
+  abbrev pub exitsNow : List Row → ℕ
+  exitsNow rows = sumOf (exitNow rows) (h .size) + inflow rows (h .size)
+
+  -- 6. time spent grows by T × (mv in segments + queues before the step); arrivals and exits add up
+  unfoldable pub stepOn : Case → List ℕ → Case
+  unfolding stepRows sumOf inflow outflowNow
+  stepOn c ds =
+      record {
+        rows = stepRows (c .rows) (c .steps) ds;
+        steps = c .steps + 1;
+        arrivals = c .arrivals + sumOf (λ i. getD ds i 0) (h .size);
+        exits = c .exits + exitsNow (c .rows);
+        time = c .time + h .step * sumOf (vehiclesIn (c .rows)) (h .size);
+      }
+
+-- one step of a case on a network
+abbrev pub stepCase : Network → Case → List ℕ → Case
+stepCase w = stepOn (w .head) (entryOf w) (segmentOf w)
+
+-- mv in segments and queues
+abbrev pub totalOf : Network → Case → ℕ
+totalOf w c = sumOf (vehiclesIn (c .rows)) (w .head .size)

@@ -1,9 +1,0 @@
-pub mod Case
-pub mod Flow
-pub mod Speed
-pub mod Step
-pub mod Words
-pub mod Ready
-pub mod Sound
-pub mod Statements
-pub mod Marked

@@ -1,4 +1,0 @@
-pub mod RuleLists
-pub mod Numbers
-pub mod Broken
-pub mod Placed

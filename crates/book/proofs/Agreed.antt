@@ -57,7 +57,7 @@ module _ (words speeds : ℕ) where
 
     entered-keeps : (b : Book) (c : Call) → refusal c (groundsIn words speeds b) ≡ 0 → leaves k c ≡ true → Keeps k l o b → Keeps k l o (entered c b)
     unfolding entered
-    entered-keeps b (start file mvs paces queues) e f K = absurd (false≢true f)
+    entered-keeps b (start file mvs initial queues) e f K = absurd (false≢true f)
     entered-keeps b (sign i limit compliance) e f K = same b (entered (sign i limit compliance) b) refl refl (K .slot) K
     entered-keeps b (meter i setting) e f K = same b (entered (meter i setting) b) refl refl (K .slot) K
     entered-keeps b (step ds) e f K = same b (entered (step ds) b) refl refl (K .slot) K
@@ -141,15 +141,15 @@ hold-taken words speeds k x b e h = rw e at (row-later _ _ _ h)
 
 pub agreed-case : AgreedCase
 unfolding bookAfter
-agreed-case file mvs paces queues before later k a e h f =
+agreed-case file mvs initial queues before later k a e h f =
     let words : ℕ = length (a .words) in
     let speeds : ℕ = length (a .speeds) in
-    let begin : Call = start file mvs paces queues in
-    let b : Book = started (networkOf file) (startCase (networkOf file) mvs paces queues) in
+    let begin : Call = start file mvs initial queues in
+    let b : Book = started (networkOf file) (startCase (networkOf file) mvs initial queues) in
     let o : Book = bookAfter words speeds (begin ∷ before) b in
-    let d₀ = demand-3 file mvs paces queues before a b e in
-    let d₁ = demand-3 file mvs paces queues (before ++ (hold k ∷ [])) a b e in
-    let d₂ = demand-3 file mvs paces queues (before ++ (hold k ∷ later)) a b e in
+    let d₀ = demand-3 file mvs initial queues before a b e in
+    let d₁ = demand-3 file mvs initial queues (before ++ (hold k ∷ [])) a b e in
+    let d₂ = demand-3 file mvs initial queues (before ++ (hold k ∷ later)) a b e in
     let K : Keeps words speeds k (o .live) o (enter words speeds (hold k) o .state) =
     hold-keeps words speeds k o (hold-taken words speeds k (after (begin ∷ before) a) o (d₀ .marks k) h) in
     let K₁ : Keeps words speeds k (o .live) o (bookAfter words speeds (begin ∷ (before ++ (hold k ∷ []))) b) =

@@ -53,12 +53,12 @@ module _ (words speeds : ℕ) where
 
 -- ---- the Start that the list begins with
 
-module _ (file mvs paces queues : List ℕ) (a : Arrays) (e : refusalAt (start file mvs paces queues) a ≡ 0) where
+module _ (file mvs initial queues : List ℕ) (a : Arrays) (e : refusalAt (start file mvs initial queues) a ≡ 0) where
   abbrev begin : Call
-  begin = start file mvs paces queues
+  begin = start file mvs initial queues
 
   abbrev fresh : Book
-  fresh = started (networkOf file) (startCase (networkOf file) mvs paces queues)
+  fresh = started (networkOf file) (startCase (networkOf file) mvs initial queues)
 
   no-refusal : refusal begin (groundsAt a) ≡ 0
   unfolding refusalAt row
@@ -73,10 +73,10 @@ module _ (file mvs paces queues : List ℕ) (a : Arrays) (e : refusalAt (start f
   begin-state = rw e
 
   begin-rel : Rel (length (a .words)) (length (a .speeds)) (perform begin a .state) fresh
-  begin-rel = rw begin-state (start-rel file mvs paces queues a (groundsAt a) refl refl no-refusal)
+  begin-rel = rw begin-state (start-rel file mvs initial queues a (groundsAt a) refl refl no-refusal)
 
   begin-since : Since (entry begin (perform begin a .answer) ∷ []) fresh
-  begin-since = rw begin-answer (since-start [] file mvs paces queues)
+  begin-since = rw begin-answer (since-start [] file mvs initial queues)
 
   begin-past : (cs : List Call) (m : ℕ) → sizesWithin m (history (begin ∷ cs) a) ≡ true → Past m (after (begin ∷ cs) a) a
   unfolding sizesWithin history after
@@ -87,7 +87,7 @@ module _ (file mvs paces queues : List ℕ) (a : Arrays) (e : refusalAt (start f
       let u : t ≡ true = and-left t more h in
       let n : networkOf file .head .size ≤ m = leb-true _ _ (rw begin-answer at u) in
       past-trans (list-past m (length (a .words)) (length (a .speeds)) cs z fresh begin-rel n (and-right t more h))
-      (rw begin-state (begun-past (start-store file mvs paces queues a (groundsAt a) refl refl no-refusal) n))
+      (rw begin-state (begun-past (start-store file mvs initial queues a (groundsAt a) refl refl no-refusal) n))
 
   -- whatever the book had before
   begin-book : (b : Book) → refusal begin (groundsIn (length (a .words)) (length (a .speeds)) b) ≡ 0
@@ -120,19 +120,19 @@ balance s k l K =
 
 pub demand-3 : Demand3
 unfolding answers after history bookAnswers bookAfter
-demand-3 file mvs paces queues cs a b e =
+demand-3 file mvs initial queues cs a b e =
     let words : ℕ = length (a .words) in
     let speeds : ℕ = length (a .speeds) in
-    let begin : Call = start file mvs paces queues in
-    let b₀ : Book = started (networkOf file) (startCase (networkOf file) mvs paces queues) in
+    let begin : Call = start file mvs initial queues in
+    let b₀ : Book = started (networkOf file) (startCase (networkOf file) mvs initial queues) in
     let z₀ : Arrays = perform begin a .state in
-    let r₀ : Rel words speeds z₀ b₀ = begin-rel file mvs paces queues a e in
+    let r₀ : Rel words speeds z₀ b₀ = begin-rel file mvs initial queues a e in
     let r : Rel words speeds (after cs z₀) (bookAfter words speeds cs b₀) = list-rel words speeds cs z₀ b₀ r₀ in
     let s : Since (history (begin ∷ cs) a) (bookAfter words speeds cs b₀) =
-    list-since words speeds cs (entry begin (perform begin a .answer) ∷ []) z₀ b₀ r₀ (begin-since file mvs paces queues a e) in
-    rw (begin-entered file mvs paces queues a e b)
+    list-since words speeds cs (entry begin (perform begin a .answer) ∷ []) z₀ b₀ r₀ (begin-since file mvs initial queues a e) in
+    rw (begin-entered file mvs initial queues a e b)
     (record {
-      same-answers = λ i. begin-answer file mvs paces queues a e i ∷ list-answers words speeds cs z₀ b₀ r₀ i;
+      same-answers = λ i. begin-answer file mvs initial queues a e i ∷ list-answers words speeds cs z₀ b₀ r₀ i;
       network = r .network;
       live = r .live .is;
       held = λ k l h. r .slots k l h .is;
@@ -146,6 +146,6 @@ demand-3 file mvs paces queues cs a b e =
       is-sound = sound-view r;
       words-long = r .words-long;
       speeds-long = r .speeds-long;
-      words-past = λ m h. begin-past file mvs paces queues a e cs m h .words-past;
-      speeds-past = λ m h. begin-past file mvs paces queues a e cs m h .speeds-past;
+      words-past = λ m h. begin-past file mvs initial queues a e cs m h .words-past;
+      speeds-past = λ m h. begin-past file mvs initial queues a e cs m h .speeds-past;
     })

@@ -24,7 +24,7 @@ use Rattle.metanet.specs.Step.{signOf, rateOf, stepOn}
 use Rattle.metanet.specs.Sound.{arrivalNumber, stepNumber}
 use Rattle.book.specs.Arrangement.{wordsFor, speedsFor}
 use Rattle.book.specs.Calls.{accepted}
-use Rattle.metanet.specs.Start.{startRow, startCase, startSegmentNumber, startNumber}
+use Rattle.metanet.specs.Start.{startState, startCase, startSegmentNumber, startNumber}
 use Rattle.book.specs.Refusal.{askedNumber, refusal}
 use Rattle.book.specs.Perform.{Arrays, refusalAt, unless, answerOf}
 use Rattle.metanet.specs.Report.{caseFigures, segmentFigures}
@@ -57,13 +57,13 @@ unfolding oneSegment startNumber startSegmentNumber row firstOf first anyOf
 lists-taken = refl
 
 in-book : (words speeds : ℕ) → bookAnswers words speeds calls (started tallies (startOf tallies)) ≡ expected
-unfolding bookAnswers calls expected enter entered unless refusal askedNumber answerOf caseFigures segmentFigures oneSegment startCase startRow stepsOf caseOf change stepNumber arrivalNumber row first firstOf anyOf stepOn newSpeed keep signOf rateOf sumOf add sub mul div lt le ofInt toUnsigned toBits
+unfolding bookAnswers calls expected enter entered unless refusal askedNumber answerOf caseFigures segmentFigures oneSegment startCase startState stepsOf caseOf change stepNumber arrivalNumber row first firstOf anyOf stepOn newSpeed keep signOf rateOf sumOf add sub mul div lt le ofInt toUnsigned toBits
 in-book words speeds = refl
 
-module _ (a : Arrays) (many : 2744 ≤ length (a .words)) (paced : 7 ≤ length (a .speeds)) where
+module _ (a : Arrays) (many : 2744 ≤ length (a .words)) (speeds-many : 7 ≤ length (a .speeds)) where
   room : (ltb (length (a .words)) (wordsFor (tallies .head .size)) || ltb (length (a .speeds)) (speedsFor (tallies .head .size))) ≡ false
   unfolding oneSegment
-  room = λ i. le-ltb (length (a .words)) 2744 many i || le-ltb (length (a .speeds)) 7 paced i
+  room = λ i. le-ltb (length (a .words)) 2744 many i || le-ltb (length (a .speeds)) 7 speeds-many i
 
   start-taken : refusalAt begin a ≡ 0
   unfolding refusalAt refusal row
@@ -75,10 +75,10 @@ module _ (a : Arrays) (many : 2744 ≤ length (a .words)) (paced : 7 ≤ length 
 
 pub tallies-answers : TalliesAnswers
 unfolding bookAnswers
-tallies-answers a many paced =
+tallies-answers a many speeds-many =
     let words : ℕ = length (a .words) in
     let speeds : ℕ = length (a .speeds) in
     let b : Book = started tallies (startOf tallies) in
-    let e = start-taken a many paced in
+    let e = start-taken a many speeds-many in
     demand-3 (fileOf tallies) (20000 ∷ []) (90000 ∷ []) (5000 ∷ []) calls a b e .same-answers
     ∙ (rw (begin-entered (fileOf tallies) (20000 ∷ []) (90000 ∷ []) (5000 ∷ []) a e b, network-is) (λ i. accepted ∷ in-book words speeds i))

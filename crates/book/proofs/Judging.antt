@@ -15,7 +15,7 @@ use Rattle.format.specs.Words.{keptNumber}
 use Rattle.metanet.specs.Words.{netOf}
 use Rattle.metanet.proofs.Ready.{CaseAt}
 use Rattle.book.specs.Arrangement.{caseWord, caseSpeed, wordsFor, speedsFor, sizeAt, runCountAt}
-use Rattle.book.specs.Sound.{placeNumber, slotNumber, casesNumber, soundNumber}
+use Rattle.book.specs.Sound.{caseNumberAt, slotNumber, casesNumber, soundNumber}
 use Rattle.book.proofs.Laid.{Laid}
 
 module _ {words : List ℕ} {speeds : List Float} {n : ℕ} (laid : Laid words speeds n) where
@@ -29,7 +29,7 @@ module _ {words : List ℕ} {speeds : List Float} {n : ℕ} (laid : Laid words s
         size = laid .size;
         past = omega arith;
         room = omega (arith, mul-le-mul-right (16 * n + 8) h, laid .room);
-        lane = omega (arith, mul-le-mul-right n h, laid .lane);
+        speed-room = omega (arith, mul-le-mul-right n h, laid .speed-room);
       }
 
   -- ---- the cases
@@ -38,11 +38,11 @@ module _ {words : List ℕ} {speeds : List Float} {n : ℕ} (laid : Laid words s
   runs-over l = sym (row-applies _ _ _ (lt-ltb _ _ l))
 
   module _ (runs : runCountAt words ≤ 1000000) where
-    pub live-refused : {r : ℕ} → r ≡ placeNumber words speeds 0 → (r ≡ 0 → ⊥) → r ≡ casesNumber words speeds
+    pub live-refused : {r : ℕ} → r ≡ caseNumberAt words speeds 0 → (r ≡ 0 → ⊥) → r ≡ casesNumber words speeds
     unfolding casesNumber
     live-refused e some = e ∙ sym (row-skipped _ _ _ (le-ltb _ _ runs) ∙ first-some _ _ (λ z. some (e ∙ z)))
 
-    pub slots-judged : {r : ℕ} → placeNumber words speeds 0 ≡ 0 → r ≡ firstOf (λ k. slotNumber words speeds (k + 1)) 6 → r ≡ casesNumber words speeds
+    pub slots-judged : {r : ℕ} → caseNumberAt words speeds 0 ≡ 0 → r ≡ firstOf (λ k. slotNumber words speeds (k + 1)) 6 → r ≡ casesNumber words speeds
     unfolding casesNumber
     slots-judged z e = e ∙ sym (row-skipped _ _ _ (le-ltb _ _ runs) ∙ first-zero _ _ z)
 

@@ -12,4 +12,4 @@ pub record Laid (words : List ℕ) (speeds : List Float) (n : ℕ) : Type 0 wher
   pub net : NetworkOk words
   pub size : n ≡ sizeAt words
   pub room : wordsFor n ≤ length words
-  pub lane : speedsFor n ≤ length speeds
+  pub speed-room : speedsFor n ≤ length speeds

@@ -10,7 +10,7 @@ pub mod Past
 pub mod Performing
 pub mod Places
 pub mod Rel
-pub mod RowStores
+pub mod StateStores
 pub mod Sim
 pub mod SlotStores
 pub mod Sounds

@@ -62,8 +62,8 @@ module _ (m : ℕ) where
 
     store-past : (c : Call) → refusal c (groundsIn words speeds b) ≡ 0 → (not (isStart (kindOf c)) || leb (broughtBy c) m) ≡ true → Past m (stored c a) a
     unfolding storedWords storedSpeeds
-    store-past (start file mvs paces queues) e h =
-        begun-past (start-store file mvs paces queues a (groundsIn words speeds b) (r .words-long) (r .speeds-long) e) (leb-true _ _ h)
+    store-past (start file mvs initial queues) e h =
+        begun-past (start-store file mvs initial queues a (groundsIn words speeds b) (r .words-long) (r .speeds-long) e) (leb-true _ _ h)
     store-past (sign i limit compliance) e h = stored-past (sign-store r i limit compliance e)
     store-past (meter i setting) e h = stored-past (meter-store r i setting e)
     store-past (step ds) e h = stored-past (step-store r ds e)
@@ -76,7 +76,7 @@ module _ (m : ℕ) where
 
     entered-size : (c : Call) → (not (isStart (kindOf c)) || leb (broughtBy c) m) ≡ true → entered c b .network .head .size ≤ m
     unfolding entered
-    entered-size (start file mvs paces queues) h = leb-true _ _ h
+    entered-size (start file mvs initial queues) h = leb-true _ _ h
     entered-size (sign i limit compliance) h = hm
     entered-size (meter i setting) h = hm
     entered-size (step ds) h = hm

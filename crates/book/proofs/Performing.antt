@@ -41,12 +41,12 @@ module _ (c : Call) (words : List ℕ) (speeds : List Float) where
       → answer ≡ answerOf c (networkAt words) (caseAt words speeds) (runCountAt words) → words' ≡ storedWords c a → speeds' ≡ storedSpeeds c a
       → Performs c words speeds answer words' speeds'
   unfolding perform
-  accepts z said stored paced =
+  accepts z said stored speeds-many =
       let is = unless-accepted (refusalAt c a) a _ z in
       record {
         answers = said ∙ ap (λ (o : Outcome Arrays). o .answer) (sym is);
         words-are = stored ∙ ap (λ (o : Outcome Arrays). o .state .words) (sym is);
-        speeds-are = paced ∙ ap (λ (o : Outcome Arrays). o .state .speeds) (sym is);
+        speeds-are = speeds-many ∙ ap (λ (o : Outcome Arrays). o .state .speeds) (sym is);
       }
 
   -- 12, of a call that is no Start

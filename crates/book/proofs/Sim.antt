@@ -27,7 +27,7 @@ inBook c b = record { state = entered c b; answer = answerOf c (b .network) (cas
 module _ {words speeds : ℕ} {a : Arrays} {b : Book} (r : Rel words speeds a b) where
   store-rel : (c : Call) → refusal c (groundsIn words speeds b) ≡ 0 → Rel words speeds (stored c a) (entered c b)
   unfolding entered storedWords storedSpeeds
-  store-rel (start file mvs paces queues) e = start-rel file mvs paces queues a (groundsIn words speeds b) (r .words-long) (r .speeds-long) e
+  store-rel (start file mvs initial queues) e = start-rel file mvs initial queues a (groundsIn words speeds b) (r .words-long) (r .speeds-long) e
   store-rel (sign i limit compliance) e = sign-rel r i limit compliance e
   store-rel (meter i setting) e = meter-rel r i setting e
   store-rel (step ds) e = step-rel r ds e
@@ -45,7 +45,7 @@ module _ {words speeds : ℕ} {a : Arrays} {b : Book} (r : Rel words speeds a b)
   answer-same : (c : Call) → refusal c (groundsIn words speeds b) ≡ 0
       → answerOf c (networkAt (a .words)) (caseAt (a .words) (a .speeds)) (runCountAt (a .words)) ≡ answerOf c (b .network) (caseIn b) (b .runs)
   unfolding answerOf refusal
-  answer-same (start file mvs paces queues) e = refl
+  answer-same (start file mvs initial queues) e = refl
   answer-same (sign i limit compliance) e = refl
   answer-same (meter i setting) e = refl
   answer-same (step ds) e = refl

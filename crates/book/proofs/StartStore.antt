@@ -15,35 +15,35 @@ use Rattle.format.specs.Words.{headIn, networkIn, keptNumber, keptWords}
 use Rattle.format.proofs.File.{network-within}
 use Rattle.format.proofs.Kept.{length-kept}
 use Rattle.format.proofs.KeptFile.{kept-file, kept-network}
-use Rattle.metanet.specs.declared.Row.{Row}
-use Rattle.metanet.specs.Case.{Case, rowOf}
-use Rattle.metanet.specs.Words.{netOf, caseIn, codedRow, codedWords, codedSpeeds}
+use Rattle.metanet.specs.declared.SegmentState.{SegmentState}
+use Rattle.metanet.specs.Case.{Case, stateOf}
+use Rattle.metanet.specs.Words.{netOf, caseIn, stateWords, caseWords, caseSpeeds}
 use Rattle.metanet.proofs.Coded.{case-coded}
 use Rattle.book.specs.Arrangement.{caseLength, caseWord, caseSpeed, wordsFor, speedsFor, sizeAt, caseAt}
 use Rattle.book.specs.Calls.{start}
-use Rattle.metanet.specs.Start.{startRow, startCase}
+use Rattle.metanet.specs.Start.{startState, startCase}
 use Rattle.book.specs.Perform.{Arrays, startWords, startSpeeds, storedWords, storedSpeeds}
 use Rattle.book.proofs.Stored.{stored, Begun}
 
 -- ---- how many words and speeds a case of n segments has
 
-length-row : (r : Row) → length (codedRow r) ≡ 16
-unfolding codedRow
-length-row r = refl
+length-state : (r : SegmentState) → length (stateWords r) ≡ 16
+unfolding stateWords
+length-state r = refl
 
-length-coded : (n : ℕ) (c : Case) → length (codedWords n c) ≡ caseLength n
-unfolding codedWords
+length-coded : (n : ℕ) (c : Case) → length (caseWords n c) ≡ caseLength n
+unfolding caseWords
 length-coded n c =
-    length-append (parts (λ i. codedRow (rowOf (c .rows) i)) n) (c .steps ∷ c .arrivals ∷ c .exits ∷ c .time ∷ 0 ∷ 0 ∷ 0 ∷ 0 ∷ [])
-    ∙ ap (λ (m : ℕ). m + 8) (length-parts 16 (λ i. codedRow (rowOf (c .rows) i)) n (λ i l. length-row (rowOf (c .rows) i)))
+    length-append (parts (λ i. stateWords (stateOf (c .states) i)) n) (c .steps ∷ c .arrivals ∷ c .exits ∷ c .time ∷ 0 ∷ 0 ∷ 0 ∷ 0 ∷ [])
+    ∙ ap (λ (m : ℕ). m + 8) (length-parts 16 (λ i. stateWords (stateOf (c .states) i)) n (λ i l. length-state (stateOf (c .states) i)))
 
-length-speeds : (n : ℕ) (c : Case) → length (codedSpeeds n c) ≡ n
-unfolding codedSpeeds
-length-speeds n c = length-table (λ i. rowOf (c .rows) i .speed) n
+length-speeds : (n : ℕ) (c : Case) → length (caseSpeeds n c) ≡ n
+unfolding caseSpeeds
+length-speeds n c = length-table (λ i. stateOf (c .states) i .speed) n
 
 -- ---- the arrays with the network w and the case c
 
-module _ (a : Arrays) (w : Network) (c : Case) (many : length (c .rows) ≡ w .head .size)
+module _ (a : Arrays) (w : Network) (c : Case) (many : length (c .states) ≡ w .head .size)
     (wide : length (keptWords w) ≡ 2560) (accepted : keptNumber (keptWords w) ≡ 0) (back : networkIn (keptWords w) ≡ w)
     (words-fit : wordsFor (w .head .size) ≤ length (a .words)) (speeds-fit : speedsFor (w .head .size) ≤ length (a .speeds)) where
   abbrev n : ℕ
@@ -62,11 +62,11 @@ module _ (a : Arrays) (w : Network) (c : Case) (many : length (c .rows) ≡ w .h
   front-long : length front ≡ 2576
   front-long = simp (length-append, length-replicate) (omega (arith, wide))
 
-  words-are : z .words ≡ front ++ (codedWords n c ++ rest)
+  words-are : z .words ≡ front ++ (caseWords n c ++ rest)
   unfolding startWords
   words-are = simp append-assoc
 
-  head-long : length (front ++ codedWords n c) ≡ caseWord n 1
+  head-long : length (front ++ caseWords n c) ≡ caseWord n 1
   head-long = simp (length-append, length-replicate) (omega (arith, wide, length-coded n c))
 
   words-same : SameOutside 0 (caseWord n 1) (a .words) (z .words)
@@ -74,7 +74,7 @@ module _ (a : Arrays) (w : Network) (c : Case) (many : length (c .rows) ≡ w .h
       record {
         long = ap length words-are ∙ simp (length-append, length-replicate, length-drop) (omega (arith, wide, length-coded n c));
         before = refl;
-        after = ap (drop (caseWord n 1)) (words-are ∙ sym (append-assoc front (codedWords n c) rest)) ∙ drop-at (front ++ codedWords n c) rest (caseWord n 1) head-long;
+        after = ap (drop (caseWord n 1)) (words-are ∙ sym (append-assoc front (caseWords n c) rest)) ∙ drop-at (front ++ caseWords n c) rest (caseWord n 1) head-long;
       }
 
   speeds-same : SameOutside 0 n (a .speeds) (z .speeds)
@@ -83,20 +83,20 @@ module _ (a : Arrays) (w : Network) (c : Case) (many : length (c .rows) ≡ w .h
       record {
         long = simp (length-append, length-drop) (omega (arith, length-speeds n c));
         before = refl;
-        after = drop-at (codedSpeeds n c) (drop n (a .speeds)) n (length-speeds n c);
+        after = drop-at (caseSpeeds n c) (drop n (a .speeds)) n (length-speeds n c);
       }
 
   net-is : netOf (z .words) ≡ keptWords w
   unfolding startWords
-  net-is = take-at (keptWords w) (replicate 16 0 ++ (codedWords n c ++ rest)) 2560 wide
+  net-is = take-at (keptWords w) (replicate 16 0 ++ (caseWords n c ++ rest)) 2560 wide
 
   -- the words after the network
   word-zero : (i : ℕ) → i < 16 → getD (z .words) (2560 + i) 0 ≡ 0
   unfolding startWords
   word-zero i l =
       sym (getD-drop 2560 (z .words) i 0)
-      ∙ ap (λ (m : List ℕ). getD m i 0) (drop-at (keptWords w) (replicate 16 0 ++ (codedWords n c ++ rest)) 2560 wide)
-      ∙ List·getD-append (replicate 16 0) (codedWords n c ++ rest) 0 i l
+      ∙ ap (λ (m : List ℕ). getD m i 0) (drop-at (keptWords w) (replicate 16 0 ++ (caseWords n c ++ rest)) 2560 wide)
+      ∙ List·getD-append (replicate 16 0) (caseWords n c ++ rest) 0 i l
       ∙ getD-replicate 16 i 0 0 l
 
   size-is : sizeAt (z .words) ≡ n
@@ -136,10 +136,10 @@ module _ (a : Arrays) (file mvs speeds queues : List ℕ) (ok : fileNumber file 
   unfolding networkFrom
   long = let head = network-within file ok .head in length-kept brought (head .curves-high) (head .size-high)
 
-  rows-many : length (startCase brought mvs speeds queues .rows) ≡ brought .head .size
+  states-many : length (startCase brought mvs speeds queues .states) ≡ brought .head .size
   unfolding startCase
-  rows-many = length-table (startRow brought mvs speeds queues) (brought .head .size)
+  states-many = length-table (startState brought mvs speeds queues) (brought .head .size)
 
   pub start-stored : Begun a (stored (start file mvs speeds queues) a) (networkOf file) (startCase (networkOf file) mvs speeds queues)
   unfolding storedWords storedSpeeds
-  start-stored = begun a brought (startCase brought mvs speeds queues) rows-many long (kept-file file ok) (kept-network file ok) words-fit speeds-fit
+  start-stored = begun a brought (startCase brought mvs speeds queues) states-many long (kept-file file ok) (kept-network file ok) words-fit speeds-fit

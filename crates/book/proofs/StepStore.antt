@@ -11,7 +11,7 @@ use Rattle.laws.specs.Sums.{sumOf}
 use Rattle.laws.proofs.Lists.{length-part}
 use Rattle.laws.proofs.Outside.{SameOutside, same-within, same-then, put-same, puts-same}
 use Rattle.metanet.specs.Step.{vehiclesIn}
-use Rattle.metanet.specs.Words.{rowsIn, newWords, newSpeeds, stepWords, totalsWords, leaving, stepCaseWords, stepCaseSpeeds}
+use Rattle.metanet.specs.Words.{statesIn, newWords, newSpeeds, stepWords, totalsWords, leaving, stepCaseWords, stepCaseSpeeds}
 use Rattle.metanet.proofs.Ready.{Ready, TotalsOk}
 use Rattle.metanet.proofs.Turns.{words-each, speeds-each, speeds-room}
 use Rattle.metanet.proofs.OneStep.{steps-the-case}
@@ -38,7 +38,7 @@ module _ {words : List ℕ} {speeds : List Float} {ds : List ℕ} {at from n : �
   made-same = puts-same 16 (newWords words speeds at from n t ds) at n words (words-each ok t) (ok .room)
 
   abbrev totals : List ℕ
-  totals = totalsWords (part e 8 words) (sumOf (λ i. getD ds i 0) n) (leaving words speeds at from n) (getD words 0 0 * sumOf (vehiclesIn (rowsIn words speeds at from n)) n)
+  totals = totalsWords (part e 8 words) (sumOf (λ i. getD ds i 0) n) (leaving words speeds at from n) (getD words 0 0 * sumOf (vehiclesIn (statesIn words speeds at from n)) n)
 
   length-totals : length totals ≡ 8
   unfolding totalsWords

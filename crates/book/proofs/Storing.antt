@@ -30,12 +30,12 @@ use Rattle.book.proofs.Sounds.{laid, live-sound}
 use Rattle.book.proofs.Rel.{Kept, Rel}
 use Rattle.book.proofs.Views.{filled-some, size-view, step-view, sound-view}
 use Rattle.book.proofs.Stored.{stored, Stored, Begun}
-use Rattle.book.proofs.RowStores.{sign-stored, meter-stored}
+use Rattle.book.proofs.StateStores.{sign-stored, meter-stored}
 use Rattle.book.proofs.SlotStores.{hold-stored, recall-stored, drop-stored}
 use Rattle.book.proofs.StepStore.{step-stored}
 use Rattle.book.proofs.StartStore.{start-stored}
 use Rattle.metanet.proofs.Lines.{caseOf-snoc}
-use Rattle.metanet.proofs.LineRows.{good-sign, good-meter}
+use Rattle.metanet.proofs.LineStates.{good-sign, good-meter}
 use Rattle.metanet.proofs.LineStep.{good-step}
 use Rattle.metanet.proofs.LineStart.{good-start}
 use Rattle.book.proofs.Moved.{some-inj, none-some, fit, live-rel, slot-rel}
@@ -158,7 +158,7 @@ module _ {words speeds : ℕ} {a : Arrays} {b : Book} (r : Rel words speeds a b)
 
 -- ---- Start, on arrays of any content
 
-module _ (file mvs speeds queues : List ℕ) (a : Arrays) (g : Grounds) (many : length (a .words) ≡ g .words) (paced : length (a .speeds) ≡ g .speeds)
+module _ (file mvs speeds queues : List ℕ) (a : Arrays) (g : Grounds) (many : length (a .words) ≡ g .words) (speeds-many : length (a .speeds) ≡ g .speeds)
     (e : refusal (start file mvs speeds queues) g ≡ 0) where
   abbrev w : Network
   w = networkOf file
@@ -182,7 +182,7 @@ module _ (file mvs speeds queues : List ℕ) (a : Arrays) (g : Grounds) (many : 
   speeds-room = ltb-false _ _ (or-right (ltb (g .words) (wordsFor (w .head .size))) _ room)
 
   pub start-store : Begun a (stored (start file mvs speeds queues) a) w (startCase w mvs speeds queues)
-  start-store = start-stored a file mvs speeds queues file-taken (rw many words-room) (rw paced speeds-room)
+  start-store = start-stored a file mvs speeds queues file-taken (rw many words-room) (rw speeds-many speeds-room)
 
   pub start-rel : Rel (g .words) (g .speeds) (stored (start file mvs speeds queues) a) (started w (startCase w mvs speeds queues))
   unfolding caseOf
@@ -190,7 +190,7 @@ module _ (file mvs speeds queues : List ℕ) (a : Arrays) (g : Grounds) (many : 
       let s = start-store in
       record {
         words-long = s .words-long ∙ many;
-        speeds-long = s .speeds-long ∙ paced;
+        speeds-long = s .speeds-long ∙ speeds-many;
         words-fit = words-room;
         speeds-fit = speeds-room;
         kept = s .kept;

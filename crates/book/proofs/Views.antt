@@ -20,7 +20,7 @@ use Rattle.metanet.specs.Sound.{caseNumber, stepNumber}
 use Rattle.metanet.specs.Words.{netOf}
 use Rattle.metanet.proofs.SameNetwork.{case-number-from, step-number-from}
 use Rattle.book.specs.Arrangement.{wordsFor, speedsFor, sizeAt, runCountAt, markAt, filledAt, caseAt}
-use Rattle.book.specs.Sound.{placeNumber, slotNumber, casesNumber, soundNumber, sound}
+use Rattle.book.specs.Sound.{caseNumberAt, slotNumber, casesNumber, soundNumber, sound}
 use Rattle.book.specs.Calls.{Call}
 use Rattle.book.specs.Refusal.{refusal}
 use Rattle.book.specs.Perform.{Arrays, isStart, groundsAt, refusalAt}
@@ -71,7 +71,7 @@ module _ {words speeds : ℕ} {a : Arrays} {b : Book} (r : Rel words speeds a b)
       ∙ ap (λ (w : Network). stepNumber (w .head) (entryOf w) (segmentOf w) steps ds) (r .network)
 
   -- ---- sound
-  place-view : (k : ℕ) (l : Line) → Kept a b k l → placeNumber (a .words) (a .speeds) k ≡ 0
+  place-view : (k : ℕ) (l : Line) → Kept a b k l → caseNumberAt (a .words) (a .speeds) k ≡ 0
   place-view k l K =
       case-view (caseAt (a .words) (a .speeds) k)
       ∙ ap (caseNumber (b .network .head) (entryOf (b .network)) (segmentOf (b .network))) (K .is)

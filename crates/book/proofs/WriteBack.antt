@@ -78,13 +78,13 @@ fileIn reportRuns = []
 
 -- ---- from demand 3
 
-file-taken : (file mvs paces queues : List ℕ) (a : Arrays) → refusalAt (start file mvs paces queues) a ≡ 0 → fileNumber file ≡ 0
+file-taken : (file mvs initial queues : List ℕ) (a : Arrays) → refusalAt (start file mvs initial queues) a ≡ 0 → fileNumber file ≡ 0
 unfolding refusalAt row refusal
-file-taken file mvs paces queues a e = first-zero-left _ _ e
+file-taken file mvs initial queues a e = first-zero-left _ _ e
 
-module _ (file mvs paces queues : List ℕ) (cs : List Call) (a : Arrays) where
+module _ (file mvs initial queues : List ℕ) (cs : List Call) (a : Arrays) where
   abbrev begin : Call
-  begin = start file mvs paces queues
+  begin = start file mvs initial queues
 
   file-is : (b : Book) → noStart (history cs (perform begin a .state)) ≡ true → (s : Since (history (begin ∷ cs) a) b) → s .file ≡ file
   unfolding history
@@ -94,10 +94,10 @@ module _ (file mvs paces queues : List ℕ) (cs : List Call) (a : Arrays) where
       (entry (start (s .file) (s .mvs) (s .speeds) (s .queues)) accepted) (s .later) n refl (s .split)))
 
 pub write-back : WritesBack
-write-back file mvs paces queues cs a out e n bs room =
-    let z : Arrays = after (start file mvs paces queues ∷ cs) a in
-    let f : fileNumber file ≡ 0 = file-taken file mvs paces queues a e in
-    let b : Book = started (networkOf file) (startCase (networkOf file) mvs paces queues) in
-    let d = demand-3 file mvs paces queues cs a b e in
+write-back file mvs initial queues cs a out e n bs room =
+    let z : Arrays = after (start file mvs initial queues ∷ cs) a in
+    let f : fileNumber file ≡ 0 = file-taken file mvs initial queues a e in
+    let b : Book = started (networkOf file) (startCase (networkOf file) mvs initial queues) in
+    let d = demand-3 file mvs initial queues cs a b e in
     written file bs f (z .words) (z .speeds) out (d .is-sound)
-    (d .network ∙ d .since .network ∙ ap networkOf (file-is file mvs paces queues cs a _ n (d .since))) room
+    (d .network ∙ d .since .network ∙ ap networkOf (file-is file mvs initial queues cs a _ n (d .since))) room

@@ -175,7 +175,7 @@ pub record Since (h : List Entry) (b : Book) : Type 0 where
 pub record Holds (a : Arrays) (xs : List Answer) (z : Arrays) (h : List Entry) (ys : List Answer) (b : Book) : Type 0 where
   -- every answer of the list is the book's
   pub same-answers : xs ≡ ys
-  -- the stored network, the live case and each held case are what the book's lines give; a case is a row for each segment (N, bits of v,
+  -- the stored network, the live case and each held case are what the book's lines give; a case is a state for each segment (N, bits of v,
   -- w, sign, setting, R, last outflow and last release) and steps, arrivals, exits and time
   pub network : networkAt (z .words) ≡ b .network
   pub live : caseAt (z .words) (z .speeds) 0 ≡ caseOf (b .network) (b .begun) (b .live)

@@ -12,7 +12,7 @@ use Rattle.format.specs.Network.{Network, segmentOf}
 use Rattle.format.specs.File.{networkOf}
 use Rattle.format.specs.Words.{keptWords}
 use Rattle.metanet.specs.Case.{Case}
-use Rattle.metanet.specs.Words.{codedWords, codedSpeeds, stepCaseWords, stepCaseSpeeds}
+use Rattle.metanet.specs.Words.{caseWords, caseSpeeds, stepCaseWords, stepCaseSpeeds}
 use Rattle.metanet.specs.declared.Setting.{Setting}
 use Rattle.book.specs.Arrangement.{runWord, markWord, marksLength, caseLength, caseWord, caseSpeed, networkAt, sizeAt, runCountAt, filledAt, caseAt}
 use Rattle.book.specs.Sound.{sound}
@@ -69,16 +69,16 @@ refusalAt c a = row (not (isStart c || sound (a .words) (a .speeds))) 12 (refusa
 
 -- Start: the network; run count and marks 0; the live case. The slots' words stay as they came
 unfoldable pub startWords : Network → Case → List ℕ → List ℕ
-startWords w c words = let n = w .head .size in keptWords w ++ (replicate marksLength 0 ++ (codedWords n c ++ drop (caseWord n 1) words))
+startWords w c words = let n = w .head .size in keptWords w ++ (replicate marksLength 0 ++ (caseWords n c ++ drop (caseWord n 1) words))
 
 unfoldable pub startSpeeds : Network → Case → List Float → List Float
-startSpeeds w c speeds = let n = w .head .size in codedSpeeds n c ++ drop n speeds
+startSpeeds w c speeds = let n = w .head .size in caseSpeeds n c ++ drop n speeds
 
--- the first word of segment i's row in the live case, i from 1
-abbrev pub rowWord : ℕ → ℕ
-rowWord i = runWord + marksLength + 16 * (i - 1)
+-- the first word of segment i's state in the live case, i from 1
+abbrev pub stateWord : ℕ → ℕ
+stateWord i = runWord + marksLength + 16 * (i - 1)
 
--- the 16 words of a row, with a sign and with a setting; Q is the segment's
+-- the 16 words of a state, with a sign and with a setting; Q is the segment's
 unfoldable pub signedWords : ℕ → ℤ → List ℕ → List ℕ
 signedWords limit compliance w = set (set w 2 limit) 3 (keptCompliance limit compliance)
 
@@ -97,10 +97,10 @@ unfoldable pub storedWords : Call → Arrays → List ℕ
 unfolding startWords signedWords meteredWords copiedWords
 storedWords (start file mvs speeds queues) a = let w = networkOf file in startWords w (startCase w mvs speeds queues) (a .words)
 storedWords (sign i limit compliance) a =
-    putPart (rowWord i) 16 (signedWords limit compliance (part (rowWord i) 16 (a .words))) (a .words)
+    putPart (stateWord i) 16 (signedWords limit compliance (part (stateWord i) 16 (a .words))) (a .words)
 storedWords (meter i setting) a =
     let q = segmentOf (networkAt (a .words)) (i - 1) .most in
-    putPart (rowWord i) 16 (meteredWords q setting (part (rowWord i) 16 (a .words))) (a .words)
+    putPart (stateWord i) 16 (meteredWords q setting (part (stateWord i) 16 (a .words))) (a .words)
 storedWords (step arrivals) a =
     let n = sizeAt (a .words) in
     set (stepCaseWords (a .words) (a .speeds) (caseWord n 0) (caseSpeed n 0) n arrivals) runWord (runCountAt (a .words) + 1)

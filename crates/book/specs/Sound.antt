@@ -16,19 +16,19 @@ abbrev pub runsMost : ℕ
 runsMost = 1000000
 
 -- 12, of case k
-abbrev pub placeNumber : List ℕ → List Float → ℕ → ℕ
-placeNumber words speeds k = let n = sizeAt words in caseNumberIn words speeds (caseWord n k) (caseSpeed n k) n
+abbrev pub caseNumberAt : List ℕ → List Float → ℕ → ℕ
+caseNumberAt words speeds k = let n = sizeAt words in caseNumberIn words speeds (caseWord n k) (caseSpeed n k) n
 
 -- 12, of slot k: its mark is 0, or 1 with a sound case
 unfoldable pub slotNumber : List ℕ → List Float → ℕ → ℕ
-slotNumber words speeds k = row (ltb 1 (markAt words k)) 12 (row (eqb (markAt words k) 0) 0 (placeNumber words speeds k))
+slotNumber words speeds k = row (ltb 1 (markAt words k)) 12 (row (eqb (markAt words k) 0) 0 (caseNumberAt words speeds k))
 
 -- 12, of the run count, the live case and the slots
 unfoldable pub casesNumber : List ℕ → List Float → ℕ
 unfolding slotNumber
 casesNumber words speeds =
     row (ltb runsMost (runCountAt words)) 12
-    (first (placeNumber words speeds 0) (firstOf (λ k. slotNumber words speeds (k + 1)) slots))
+    (first (caseNumberAt words speeds 0) (firstOf (λ k. slotNumber words speeds (k + 1)) slots))
 
 unfoldable pub soundNumber : List ℕ → List Float → ℕ
 unfolding casesNumber

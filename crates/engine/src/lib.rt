@@ -7,7 +7,7 @@ ghost use Rattle.format.specs.Curve.{curveCallNumber};
 ghost use Rattle.metanet.specs.declared.Setting.the-variants.{Open, Fixed, Alinea};
 ghost use Rattle.book.specs.Calls.{start, sign, meter, step, hold, recall, dropSlot, report, reportSegment, reportRuns, verdictSays};
 ghost use Rattle.book.specs.Write.{writtenBytes, writeAnswer};
-ghost use Rattle.engine.specs.Place.{placeNumber, placeWords, placeFigures};
+ghost use Rattle.engine.specs.Place.{caseNumberAt, placeWords, placeFigures};
 ghost use Rattle.engine.specs.Study.{soundness, numberOf, putNumber, putFigures, Called, Reported};
 
 // The number that refuses a network file, and 0 where it is accepted.
@@ -30,7 +30,7 @@ pub extern "C" fn network_curve_number(file: &[u8], k: u64) -> u64
 // curve, 24 where fewer than two words are lent, and 0; a refused call leaves the words as they came.
 #[no_mangle]
 pub extern "C" fn network_curve(file: &[u8], k: u64, place: &mut [u64]) -> u64
-    ensures { λ r. ⌜ r ≡ placeNumber (now (file .entry)) k (now (place .entry)) ⌝ }
+    ensures { λ r. ⌜ r ≡ caseNumberAt (now (file .entry)) k (now (place .entry)) ⌝ }
     ensures { λ _. ⌜ now (place .exit) ≡ placeWords (now (file .entry)) k (now (place .entry)) ⌝ }
 {
     let r = network::curve_number(file, k);
@@ -87,12 +87,12 @@ pub extern "C" fn study_start(
     speeds: &mut [f64],
     file: &[u8],
     mvs: &[u32],
-    starts: &[u32],
+    initial: &[u32],
     queues: &[u32],
 ) -> u64
-    ensures { λ r. ⌜ Called (start (now (file .entry)) (now (mvs .entry)) (now (starts .entry)) (now (queues .entry))) (now (words .entry)) (now (speeds .entry)) r (now (words .exit)) (now (speeds .exit)) ⌝ }
+    ensures { λ r. ⌜ Called (start (now (file .entry)) (now (mvs .entry)) (now (initial .entry)) (now (queues .entry))) (now (words .entry)) (now (speeds .entry)) r (now (words .exit)) (now (speeds .exit)) ⌝ }
 {
-    number_of(study::start(words, speeds, file, mvs, starts, queues))
+    number_of(study::start(words, speeds, file, mvs, initial, queues))
 }
 
 // The sign of a segment of the live case.

@@ -9,73 +9,73 @@ use Rattle.laws.proofs.Lists.{getD-table}
 use Rattle.laws.proofs.Sums.{sum-ext, sum-term}
 use Rattle.format.specs.declared.Head.{Head}
 use Rattle.format.specs.declared.Segment.{Segment}
-use Rattle.metanet.specs.declared.Row.{Row}
-use Rattle.metanet.specs.Case.{noRow, rowOf}
+use Rattle.metanet.specs.declared.SegmentState.{SegmentState}
+use Rattle.metanet.specs.Case.{noState, stateOf}
 use Rattle.metanet.specs.Speed.{newSpeed}
-use Rattle.metanet.specs.Step.{made, outflowNow, through, inflow, freeSpeed, stepRow, stepRows, exitNow, exitsNow, vehiclesIn}
-use Rattle.metanet.proofs.Ready.{SegmentOk, RowOk}
+use Rattle.metanet.specs.Step.{newState, outflowNow, through, inflow, freeSpeed, stepState, stepStates, exitNow, exitsNow, vehiclesIn}
+use Rattle.metanet.proofs.Ready.{SegmentOk, StateOk}
 use Rattle.metanet.proofs.SegmentLaws.{Within, keep-within, release-waits, outflow-at-most-count, exit-le}
 
--- the figures of a row that are mv
-pub record FiguresWithin (r : Row) (most : ℕ) : Type 0 where
+-- the figures of a state that are mv
+pub record FiguresWithin (r : SegmentState) (most : ℕ) : Type 0 where
   pub count : r .count ≤ most
   pub queue : r .queue ≤ most
   pub outflow : r .outflow ≤ most
   pub release : r .release ≤ most
 
-module _ (h : Head) (entry : ℕ → ℕ → ℕ) (segment : ℕ → Segment) (rows : List Row) (t : ℕ) (ds : List ℕ)
+module _ (h : Head) (entry : ℕ → ℕ → ℕ) (segment : ℕ → Segment) (states : List SegmentState) (t : ℕ) (ds : List ℕ)
     (ok : (i : ℕ) → i < h .size → SegmentOk h (segment i) (freeSpeed h entry segment i))
-    (row : (i : ℕ) → i < h .size → RowOk (segment i) (freeSpeed h entry segment i) (rowOf rows i)) where
-  abbrev new : ℕ → Row
-  new i = stepRow h entry segment rows t ds i
+    (row : (i : ℕ) → i < h .size → StateOk (segment i) (freeSpeed h entry segment i) (stateOf states i)) where
+  abbrev new : ℕ → SegmentState
+  new i = stepState h entry segment states t ds i
 
   abbrev out : ℕ → ℕ
-  out i = outflowNow h (segment i) (rowOf rows i)
+  out i = outflowNow h (segment i) (stateOf states i)
 
-  pub new-is : (i : ℕ) → i < h .size → rowOf (stepRows h entry segment rows t ds) i ≡ new i
-  unfolding stepRows
-  new-is i l = getD-table (stepRow h entry segment rows t ds) (h .size) i noRow l
+  pub new-is : (i : ℕ) → i < h .size → stateOf (stepStates h entry segment states t ds) i ≡ new i
+  unfolding stepStates
+  new-is i l = getD-table (stepState h entry segment states t ds) (h .size) i noState l
 
   -- new speeds lie in 1,000..F
-  pub new-within : (i : ℕ) → i < h .size → Within (freeSpeed h entry segment i) (rowOf (stepRows h entry segment rows t ds) i .speed)
-  unfolding stepRow made newSpeed
+  pub new-within : (i : ℕ) → i < h .size → Within (freeSpeed h entry segment i) (stateOf (stepStates h entry segment states t ds) i .speed)
+  unfolding stepState newState newSpeed
   new-within i l = rw (new-is i l) (keep-within (freeSpeed h entry segment i) (ok i l .slow) (ok i l .fast) _)
 
   -- one segment: what is there after, with what flows out, is what was there before, with what came
-  one : (i : ℕ) → i < h .size → new i .count + new i .queue + out i ≡ vehiclesIn rows i + getD ds i 0 + inflow h entry segment rows i
-  unfolding stepRow made
+  one : (i : ℕ) → i < h .size → new i .count + new i .queue + out i ≡ vehiclesIn states i + getD ds i 0 + inflow h entry segment states i
+  unfolding stepState newState
   one i l = omega (arith, release-waits (ok i l) (row i l) t (getD ds i 0), outflow-at-most-count (ok i l) (row i l))
 
   -- outflow is the exit part and what passes on
-  split : (i : ℕ) → i < h .size → exitNow h entry segment rows i + inflow h entry segment rows (suc i) ≡ out i
+  split : (i : ℕ) → i < h .size → exitNow h entry segment states i + inflow h entry segment states (suc i) ≡ out i
   unfolding inflow through
   split i l = omega (arith, exit-le (out i) (segment i .exit) (ok i l .exit-high))
 
   -- all segments below k
   below : (k : ℕ) → k ≤ h .size
-      → sumOf (λ i. new i .count + new i .queue) k + sumOf (exitNow h entry segment rows) k + inflow h entry segment rows k ≡ sumOf (vehiclesIn rows) k + sumOf (λ i. getD ds i 0) k
+      → sumOf (λ i. new i .count + new i .queue) k + sumOf (exitNow h entry segment states) k + inflow h entry segment states k ≡ sumOf (vehiclesIn states) k + sumOf (λ i. getD ds i 0) k
   unfolding sumOf
   below zero l = unfold inflow in refl
   below (suc k) l = omega (arith, below k (omega arith), one k l, split k l)
 
-  held-new : sumOf (vehiclesIn (stepRows h entry segment rows t ds)) (h .size) ≡ sumOf (λ i. new i .count + new i .queue) (h .size)
-  held-new = sum-ext _ (λ i. new i .count + new i .queue) (h .size) (λ i l. ap (λ (r : Row). r .count + r .queue) (new-is i l))
+  held-new : sumOf (vehiclesIn (stepStates h entry segment states t ds)) (h .size) ≡ sumOf (λ i. new i .count + new i .queue) (h .size)
+  held-new = sum-ext _ (λ i. new i .count + new i .queue) (h .size) (λ i l. ap (λ (r : SegmentState). r .count + r .queue) (new-is i l))
 
   -- total after + let out ≡ total before + arrivals
-  pub balance : sumOf (vehiclesIn (stepRows h entry segment rows t ds)) (h .size) + exitsNow h entry segment rows ≡ sumOf (vehiclesIn rows) (h .size) + sumOf (λ i. getD ds i 0) (h .size)
+  pub balance : sumOf (vehiclesIn (stepStates h entry segment states t ds)) (h .size) + exitsNow h entry segment states ≡ sumOf (vehiclesIn states) (h .size) + sumOf (λ i. getD ds i 0) (h .size)
   balance = omega (arith, held-new, below (h .size) (omega arith))
 
   -- what was there and came
   abbrev all : ℕ
-  all = sumOf (vehiclesIn rows) (h .size) + sumOf (λ i. getD ds i 0) (h .size)
+  all = sumOf (vehiclesIn states) (h .size) + sumOf (λ i. getD ds i 0) (h .size)
 
-  -- every figure of a new row is at most that
+  -- every figure of a new state is at most that
   new-figures : (i : ℕ) → i < h .size → (new i .count ≤ all) × (new i .queue ≤ all) × (new i .outflow ≤ all) × (new i .release ≤ all)
-  unfolding stepRow made
+  unfolding stepState newState
   new-figures i l =
       let total = below (h .size) (omega arith) in
       let after = sum-term (λ i. new i .count + new i .queue) (h .size) i l in
-      let before = sum-term (vehiclesIn rows) (h .size) i l in
+      let before = sum-term (vehiclesIn states) (h .size) i l in
       let came = sum-term (λ i. getD ds i 0) (h .size) i l in (
         omega (arith, total, after),
         omega (arith, total, after),
@@ -83,7 +83,7 @@ module _ (h : Head) (entry : ℕ → ℕ → ℕ) (segment : ℕ → Segment) (r
         omega (arith, before, came, release-waits (ok i l) (row i l) t (getD ds i 0)),
       )
 
-  pub figures-within : (i : ℕ) → i < h .size → FiguresWithin (rowOf (stepRows h entry segment rows t ds) i) all
+  pub figures-within : (i : ℕ) → i < h .size → FiguresWithin (stateOf (stepStates h entry segment states t ds) i) all
   figures-within i l =
       let f = new-figures i l in
       rw (new-is i l) (record { count = f .0; queue = f .1; outflow = f .2; release = f .3 })

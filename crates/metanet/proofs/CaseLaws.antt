@@ -1,4 +1,4 @@
--- A step of a whole case: rows and totals.
+-- A step of a whole case: states and totals.
 use Prim.Native.Nat.{ℕ, _+_, _*_, _≤_, _<_}
 use native.Mathlib.Nat.{le-trans, le-of-eq, add-zero, mul-le-mul}
 use native.Mathlib.Omega.{arith}
@@ -14,15 +14,15 @@ use Rattle.laws.proofs.Lists.{table-ext, getD-set, getD-take-test}
 use Rattle.laws.proofs.Puts.{length-puts, drop-puts}
 use Rattle.format.specs.Words.{headIn, entryIn, segmentIn}
 use Rattle.metanet.specs.Step.{vehiclesIn, stepOn}
-use Rattle.metanet.specs.Words.{netOf, rowIn, rowAt, rowsIn, caseIn, newWords, stepWords, totalsWords, leaving, stepCaseWords, stepCaseSpeeds}
+use Rattle.metanet.specs.Words.{netOf, stateIn, stateAt, statesIn, caseIn, newWords, stepWords, totalsWords, leaving, stepCaseWords, stepCaseSpeeds}
 use Rattle.metanet.proofs.Ready.{Ready, TotalsOk, vehiclesAt}
-use Rattle.metanet.proofs.Turns.{row-is, words-each}
+use Rattle.metanet.proofs.Turns.{state-is, words-each}
 use Rattle.metanet.proofs.SoundLaws.{vehicles-are, vehicles-sum}
-use Rattle.metanet.proofs.ReadBack.{row-take, rows-back}
+use Rattle.metanet.proofs.ReadBack.{state-take, states-back}
 
 module _ {ws : List ℕ} {vs : List Float} {ds : List ℕ} {at from n : ℕ} (ok : Ready ws vs ds at from n) where
   pub vehicles-high : (i : ℕ) → i < n → vehiclesAt ws at i ≤ 2000000000000
-  vehicles-high i h = rw (vehicles-are ws vs at from n i h) (rw (row-is ok i h) (omega (arith, ok .row i h .count, ok .row i h .queue)))
+  vehicles-high i h = rw (vehicles-are ws vs at from n i h) (rw (state-is ok i h) (omega (arith, ok .state i h .count, ok .state i h .queue)))
 
   step-is : headIn (netOf ws) .step ≡ getD ws 0 0
   unfolding headIn
@@ -37,7 +37,7 @@ module _ {ws : List ℕ} {vs : List Float} {ds : List ℕ} {at from n : ℕ} (ok
   rest-kept : (t : ℕ) → drop (at + 16 * n) (stepWords ws vs at from n t ds) ≡ drop (at + 16 * n) ws
   rest-kept t = drop-puts 16 (newWords ws vs at from n t ds) at n ws (words-each ok t) (ok .room) n (omega arith)
 
--- ---- the totals are added to the words that a step of the rows left
+-- ---- the totals are added to the words that a step of the states left
 
 module _ {ws : List ℕ} {vs : List Float} {ds : List ℕ} {at from n : ℕ} (ok : Ready ws vs ds at from n) (tot : TotalsOk ws (at + 16 * n)) where
   abbrev e : ℕ
@@ -78,8 +78,8 @@ module _ {ws : List ℕ} {vs : List Float} {ds : List ℕ} {at from n : ℕ} (ok
 -- ---- the case that is read back is the step of the case that was there
 
 -- the first 16 from place a, where they lie in the first list
-first-row : (a : ℕ) (xs ys : List ℕ) → a + 16 ≤ length xs → part a 16 (xs ++ ys) ≡ part a 16 xs
-first-row a xs ys h = ap (take 16) (drop-append-le a xs ys (omega arith)) ∙ take-append-le 16 (drop a xs) ys (simp length-drop (omega arith))
+first-state : (a : ℕ) (xs ys : List ℕ) → a + 16 ≤ length xs → part a 16 (xs ++ ys) ≡ part a 16 xs
+first-state a xs ys h = ap (take 16) (drop-append-le a xs ys (omega arith)) ∙ take-append-le 16 (drop a xs) ys (simp length-drop (omega arith))
 
 module _ {ws : List ℕ} {vs : List Float} {ds : List ℕ} {at from n : ℕ} (ok : Ready ws vs ds at from n) (tot : TotalsOk ws (at + 16 * n)) where
   abbrev made : List ℕ
@@ -89,7 +89,7 @@ module _ {ws : List ℕ} {vs : List Float} {ds : List ℕ} {at from n : ℕ} (ok
   after = stepCaseWords ws vs at from n ds
 
   totals : List ℕ
-  totals = totalsWords (part (e ok tot) 8 ws) (sumOf (λ i. getD ds i 0) n) (leaving ws vs at from n) (getD ws 0 0 * sumOf (vehiclesIn (rowsIn ws vs at from n)) n)
+  totals = totalsWords (part (e ok tot) 8 ws) (sumOf (λ i. getD ds i 0) n) (leaving ws vs at from n) (getD ws 0 0 * sumOf (vehiclesIn (statesIn ws vs at from n)) n)
 
   front : length (take (e ok tot) made) ≡ e ok tot
   front = length-take-le (e ok tot) made (omega (arith, made-length ok (t ok tot), ok .room))
@@ -105,20 +105,20 @@ module _ {ws : List ℕ} {vs : List Float} {ds : List ℕ} {at from n : ℕ} (ok
       ∙ getD-append-add (take (e ok tot) made) (totals ++ drop 8 (drop (e ok tot) made)) k 0
       ∙ List·getD-append totals (drop 8 (drop (e ok tot) made)) 0 k (omega (arith, size-totals))
 
-  row-kept : (v : List Float) (i : ℕ) → i < n → rowAt after v at from i ≡ rowAt made v at from i
-  row-kept v i h =
+  state-kept : (v : List Float) (i : ℕ) → i < n → stateAt after v at from i ≡ stateAt made v at from i
+  state-kept v i h =
       let a = at + 16 * i in
       let w = getD v (from + i) nan in
-      sym (row-take (drop a after) w)
-      ∙ ap (λ (x : List ℕ). rowIn x w)
-      (first-row a (take (e ok tot) made) _ (omega (arith, front))
-      ∙ sym (first-row a (take (e ok tot) made) (drop (e ok tot) made) (omega (arith, front)))
+      sym (state-take (drop a after) w)
+      ∙ ap (λ (x : List ℕ). stateIn x w)
+      (first-state a (take (e ok tot) made) _ (omega (arith, front))
+      ∙ sym (first-state a (take (e ok tot) made) (drop (e ok tot) made) (omega (arith, front)))
       ∙ ap (λ (x : List ℕ). part a 16 x) (take-append-drop (e ok tot) made))
-      ∙ row-take (drop a made) w
+      ∙ state-take (drop a made) w
 
-  rows-are : rowsIn after (stepCaseSpeeds ws vs at from n ds) at from n ≡ rowsIn made (stepCaseSpeeds ws vs at from n ds) at from n
-  unfolding rowsIn
-  rows-are = table-ext _ _ n (row-kept (stepCaseSpeeds ws vs at from n ds))
+  states-are : statesIn after (stepCaseSpeeds ws vs at from n ds) at from n ≡ statesIn made (stepCaseSpeeds ws vs at from n ds) at from n
+  unfolding statesIn
+  states-are = table-ext _ _ n (state-kept (stepCaseSpeeds ws vs at from n ds))
 
   size-is : headIn (netOf ws) .size ≡ n
   size-is = sym (ok .size)
@@ -126,7 +126,7 @@ module _ {ws : List ℕ} {vs : List Float} {ds : List ℕ} {at from n : ℕ} (ok
   pub case-back : caseIn after (stepCaseSpeeds ws vs at from n ds) at from n ≡ stepOn (headIn (netOf ws)) (entryIn (netOf ws)) (segmentIn (netOf ws)) (caseIn ws vs at from n) ds
   unfolding caseIn stepOn totals totalsWords
   case-back = λ j. record {
-    rows = (rows-are ∙ rows-back ok (t ok tot)) j;
+    states = (states-are ∙ states-back ok (t ok tot)) j;
     steps = steps-is j;
     arrivals = arrivals-is j;
     exits = exits-is j;
@@ -145,5 +145,5 @@ module _ {ws : List ℕ} {vs : List Float} {ds : List ℕ} {at from n : ℕ} (ok
       exits-is : getD after (at + 16 * n + 2) 0 ≡ getD ws (at + 16 * n + 2) 0 + leaving ws vs at from n
       exits-is = total-at 2 (omega arith) ∙ simp (getD-set, length-set, long, getD-take-test 8 (drop (at + 16 * n) ws), getD-drop)
 
-      time-is : getD after (at + 16 * n + 3) 0 ≡ getD ws (at + 16 * n + 3) 0 + headIn (netOf ws) .step * sumOf (vehiclesIn (rowsIn ws vs at from n)) (headIn (netOf ws) .size)
+      time-is : getD after (at + 16 * n + 3) 0 ≡ getD ws (at + 16 * n + 3) 0 + headIn (netOf ws) .step * sumOf (vehiclesIn (statesIn ws vs at from n)) (headIn (netOf ws) .size)
       time-is = total-at 3 (omega arith) ∙ simp (getD-set, length-set, long, getD-take-test 8 (drop (at + 16 * n) ws), getD-drop, size-is, step-is ok)

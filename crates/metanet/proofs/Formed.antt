@@ -1,4 +1,4 @@
--- One step keeps a row formed: its sign and its setting are as their calls permit, its rate is in range, and its speed is in 1,000..F.
+-- One step keeps a state formed: its sign and its setting are as their calls permit, its rate is in range, and its speed is in 1,000..F.
 -- Its figures may pass 10¹²: those are bounded by what was there and came (Balance).
 use Prim.Native.Nat.{ℕ, _%_, _≤_, min, max}
 use mathlib.Core.Path.{_≡_, refl, sym, _∙_}
@@ -13,11 +13,11 @@ use Rattle.laws.specs.Real.{real}
 use Rattle.laws.proofs.Tests.{or-left, or-right, anyOf-false, inside, inside-low, inside-high}
 use Rattle.format.specs.declared.Head.{Head}
 use Rattle.format.specs.declared.Segment.{Segment}
-use Rattle.metanet.specs.declared.Row.{Row}
-use Rattle.metanet.specs.declared.Around.{Around}
+use Rattle.metanet.specs.declared.SegmentState.{SegmentState}
+use Rattle.metanet.specs.declared.Neighbours.{Neighbours}
 use Rattle.metanet.specs.Flow.{alineaRate, moved, rateChange}
 use Rattle.metanet.specs.Speed.{area, newSpeed}
-use Rattle.metanet.specs.Step.{rateOf, rateNow, made}
+use Rattle.metanet.specs.Step.{rateOf, rateNow, newState}
 use Rattle.metanet.proofs.Ready.{SegmentOk}
 use Rattle.metanet.specs.Sound.{signBad, hasAlinea, openBad, fixedBad, alineaBad, settingBad, speedBad}
 use Rattle.metanet.proofs.SegmentLaws.{Within, keep-within}
@@ -28,7 +28,7 @@ record InRange (least most x : ℕ) : Type 0 where
   low : least ≤ x
   high : x ≤ most
 
-module _ (s : Segment) (r : Row) (t : ℕ) where
+module _ (s : Segment) (r : SegmentState) (t : ℕ) where
   rate-open : r .kind ≡ 0 → rateNow s r t ≡ s .most
   unfolding rateNow rateOf
   rate-open e = rw e
@@ -53,22 +53,22 @@ pub within-good : (f : ℕ) (v : Float) → Within f v → speedBad f v ≡ fals
 unfolding speedBad
 within-good f v w = λ j. not (T-true (le (real 1000) v) (w .low) j && T-true (le v (real f)) (w .high) j)
 
--- ---- the new row
+-- ---- the new state
 
-module _ (h : Head) (s : Segment) (f : ℕ) (r : Row) (t d : ℕ) (merges : Bool) (o : Around) where
-  abbrev new : Row
-  new = made h s f r t d merges o
+module _ (h : Head) (s : Segment) (f : ℕ) (r : SegmentState) (t d : ℕ) (onRamp : Bool) (o : Neighbours) where
+  abbrev new : SegmentState
+  new = newState h s f r t d onRamp o
 
   pub sign-kept : signBad new ≡ signBad r
-  unfolding made signBad
+  unfolding newState signBad
   sign-kept = refl
 
   alinea-same : hasAlinea new ≡ hasAlinea r
-  unfolding made hasAlinea
+  unfolding newState hasAlinea
   alinea-same = refl
 
   new-rate : new .rate ≡ rateNow s r t
-  unfolding made
+  unfolding newState
   new-rate = refl
 
   open-kept : r .kind ≡ 0 → openBad s r ≡ false → openBad s new ≡ false
@@ -83,7 +83,7 @@ module _ (h : Head) (s : Segment) (f : ℕ) (r : Row) (t d : ℕ) (merges : Bool
       (λ j. alinea-same j || ltb (s .most) ((new-rate ∙ rate-fixed s r t e) j)) ∙ z
 
   alinea-kept : r .kind ≡ 2 → alineaBad s r ≡ false → alineaBad s new ≡ false
-  unfolding alineaBad made
+  unfolding alineaBad newState
   alinea-kept e z =
       let no = anyOf-false _ z in
       let old : InRange (r .least) (s .most) (r .rate) = record { low = inside-low (r .least) (r .rate) (s .most) (no 4); high = inside-high (r .least) (r .rate) (s .most) (no 4) } in
@@ -103,11 +103,11 @@ module _ (h : Head) (s : Segment) (f : ℕ) (r : Row) (t d : ℕ) (merges : Bool
   pick-kept m false false false p q u z = z
 
   pub setting-kept : (m : Bool) → settingBad m s r ≡ false → settingBad m s new ≡ false
-  unfolding settingBad made
+  unfolding settingBad newState
   setting-kept m z = pick-kept m (eqb (r .kind) 0) (eqb (r .kind) 1) (eqb (r .kind) 2) refl refl refl z
 
   speed-within : SegmentOk h s f → Within f (new .speed)
-  unfolding made newSpeed
+  unfolding newState newSpeed
   speed-within S = keep-within f (S .slow) (S .fast) _
 
   pub speed-formed : SegmentOk h s f → speedBad f (new .speed) ≡ false

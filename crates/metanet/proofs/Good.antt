@@ -17,7 +17,7 @@ pub record GoodNetwork (w : Network) : Type 0 where
 
 pub record Good (w : Network) (s : Case) (l : Line) : Type 0 where
   pub net : GoodNetwork w
-  pub many : length (caseOf w s l .rows) ≡ w .head .size
+  pub many : length (caseOf w s l .states) ≡ w .head .size
   pub is-sound : caseNumber (w .head) (entryOf w) (segmentOf w) (caseOf w s l) ≡ 0
   pub steps-are : caseOf w s l .steps ≡ stepsOf l
   pub arrivals-are : caseOf w s l .arrivals ≡ arrivalsOf w l

@@ -6,7 +6,7 @@ pub mod Coded
 pub mod FlowLaws
 pub mod Formed
 pub mod Good
-pub mod LineRows
+pub mod LineStates
 pub mod LineStart
 pub mod LineStep
 pub mod Lines

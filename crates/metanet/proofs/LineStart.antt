@@ -19,15 +19,15 @@ use Rattle.format.specs.Network.{Network, entryOf, segmentOf}
 use Rattle.format.specs.File.{headOf, entryOn, segmentOn, fileNumber, networkOf}
 use Rattle.format.proofs.File.{network-accepted}
 use Rattle.format.proofs.From.{from-formed}
-use Rattle.metanet.specs.declared.Row.{Row}
-use Rattle.metanet.specs.Case.{Case, noRow, rowOf}
+use Rattle.metanet.specs.declared.SegmentState.{SegmentState}
+use Rattle.metanet.specs.Case.{Case, noState, stateOf}
 use Rattle.metanet.specs.Speed.{area}
 use Rattle.metanet.specs.Step.{vehiclesIn, freeSpeed, totalOf}
 use Rattle.metanet.proofs.Ready.{SegmentOk}
 use Rattle.metanet.specs.Sound.{signBad, hasAlinea, openBad, settingBad}
 use Rattle.metanet.proofs.SegmentLaws.{segment-ok}
 use Rattle.metanet.proofs.Formed.{within-good}
-use Rattle.metanet.specs.Start.{startRow, startCase, startSegmentNumber, startNumber}
+use Rattle.metanet.specs.Start.{startState, startCase, startSegmentNumber, startNumber}
 use Rattle.metanet.specs.Line.{caseOf, stepsOf, arrivalsOf, exitsOf}
 use Rattle.metanet.specs.Start.{handed}
 use Rattle.metanet.proofs.Good.{GoodNetwork, Good}
@@ -38,40 +38,40 @@ module _ (w : Network) (mvs speeds queues : List ℕ) where
   abbrev begun : Case
   begun = startCase w mvs speeds queues
 
-  row-is : (i : ℕ) → i < w .head .size → rowOf (begun .rows) i ≡ startRow w mvs speeds queues i
+  state-is : (i : ℕ) → i < w .head .size → stateOf (begun .states) i ≡ startState w mvs speeds queues i
   unfolding startCase
-  row-is i l = getD-table (startRow w mvs speeds queues) (w .head .size) i noRow l
+  state-is i l = getD-table (startState w mvs speeds queues) (w .head .size) i noState l
 
-  vehicles-are : (i : ℕ) → i < w .head .size → vehiclesIn (begun .rows) i ≡ getD mvs i 0 + getD queues i 0
-  unfolding startRow
-  vehicles-are i l = ap (λ (r : Row). r .count + r .queue) (row-is i l)
+  vehicles-are : (i : ℕ) → i < w .head .size → vehiclesIn (begun .states) i ≡ getD mvs i 0 + getD queues i 0
+  unfolding startState
+  vehicles-are i l = ap (λ (r : SegmentState). r .count + r .queue) (state-is i l)
 
   -- the vehicles of the start case are those handed to Start
   pub start-total : totalOf w begun ≡ handed w mvs queues
   start-total =
-      sum-ext (vehiclesIn (begun .rows)) (λ i. getD mvs i 0 + getD queues i 0) (w .head .size) vehicles-are
+      sum-ext (vehiclesIn (begun .states)) (λ i. getD mvs i 0 + getD queues i 0) (w .head .size) vehicles-are
       ∙ sum-add (λ i. getD mvs i 0) (λ i. getD queues i 0) (w .head .size)
 
 -- ---- what row 14 says of segment i
 
-record StartRow (s : Segment) (F mv speed queue : ℕ) : Type 0 where
+record StartState (s : Segment) (F mv speed queue : ℕ) : Type 0 where
   count : mv ≤ s .jam * area s
   slow : 1000 ≤ speed
   fast : speed ≤ F
   waiting : queue ≤ 1000000
 
-start-row : (s : Segment) (F mv speed queue : ℕ) → startSegmentNumber s F mv speed queue ≡ 0 → StartRow s F mv speed queue
+start-state : (s : Segment) (F mv speed queue : ℕ) → startSegmentNumber s F mv speed queue ≡ 0 → StartState s F mv speed queue
 unfolding startSegmentNumber
-start-row s F mv speed queue z =
+start-state s F mv speed queue z =
     let no = anyOf-false _ (row-passed _ _ _ z) in
     record { count = ltb-false _ _ (no 0); slow = inside-low 1000 speed F (no 1); fast = inside-high 1000 speed F (no 1); waiting = ltb-false _ _ (no 2) }
 
 -- ---- the start case on a good network
 
 module _ {w : Network} (net : GoodNetwork w) (mvs speeds queues : List ℕ) (z : startNumber w mvs speeds queues ≡ 0) where
-  judged : (i : ℕ) → i < w .head .size → StartRow (segmentOf w i) (entryOf w (segmentOf w i .curve) 0) (getD mvs i 0) (getD speeds i 0) (getD queues i 0)
+  judged : (i : ℕ) → i < w .head .size → StartState (segmentOf w i) (entryOf w (segmentOf w i .curve) 0) (getD mvs i 0) (getD speeds i 0) (getD queues i 0)
   unfolding startNumber
-  judged i l = start-row _ _ _ _ _ (firstOf-zero _ _ (row-later _ _ _ z) i l)
+  judged i l = start-state _ _ _ _ _ (firstOf-zero _ _ (row-later _ _ _ z) i l)
 
   segments-ok : (i : ℕ) → i < w .head .size → SegmentOk (w .head) (segmentOf w i) (freeSpeed (w .head) (entryOf w) (segmentOf w) i)
   segments-ok = segment-ok (net-within net)
@@ -82,20 +82,20 @@ module _ {w : Network} (net : GoodNetwork w) (mvs speeds queues : List ℕ) (z :
       let s = segments-ok i l in
       le-trans (judged i l .count) (mul-le-mul (s .jam-high) (mul-le-mul (s .metres-high) (s .lanes-high)))
 
-  each-le : (i : ℕ) → i < w .head .size → vehiclesIn (begun w mvs speeds queues .rows) i ≤ 4200000
+  each-le : (i : ℕ) → i < w .head .size → vehiclesIn (begun w mvs speeds queues .states) i ≤ 4200000
   each-le i l = omega (arith, vehicles-are w mvs speeds queues i l, count-le i l, judged i l .waiting)
 
   start-le : totalOf w (begun w mvs speeds queues) ≤ 168000000
-  start-le = omega (arith, sum-high (vehiclesIn (begun w mvs speeds queues .rows)) 4200000 (w .head .size) each-le, net-within net .head .size-high)
+  start-le = omega (arith, sum-high (vehiclesIn (begun w mvs speeds queues .states)) 4200000 (w .head .size) each-le, net-within net .head .size-high)
 
-  start-sound : (i : ℕ) → i < w .head .size → SoundAt (w .head) (entryOf w) (segmentOf w) (begun w mvs speeds queues .rows) i
-  unfolding startRow signBad settingBad openBad hasAlinea anyOf
+  start-sound : (i : ℕ) → i < w .head .size → SoundAt (w .head) (entryOf w) (segmentOf w) (begun w mvs speeds queues .states) i
+  unfolding startState signBad settingBad openBad hasAlinea anyOf
   start-sound i l =
       let a = judged i l in
       let fast = segments-ok i l .fast in
       let v = getD speeds i 0 in
       let f = freeSpeed (w .head) (entryOf w) (segmentOf w) i in
-      rw (row-is w mvs speeds queues i l)
+      rw (state-is w mvs speeds queues i l)
       (record {
         figures = record { count = omega (arith, count-le i l); queue = omega (arith, a .waiting); outflow = omega arith; release = omega arith };
         sign = refl;
@@ -108,7 +108,7 @@ module _ {w : Network} (net : GoodNetwork w) (mvs speeds queues : List ℕ) (z :
   good-begun =
       record {
         net = net;
-        many = length-table (startRow w mvs speeds queues) (w .head .size);
+        many = length-table (startState w mvs speeds queues) (w .head .size);
         is-sound = case-sound (w .head) (entryOf w) (segmentOf w) (begun w mvs speeds queues) start-sound (omega (arith, start-le)) (omega arith) (omega arith) (omega arith) (omega arith);
         steps-are = refl;
         arrivals-are = refl;

@@ -16,20 +16,20 @@ use Rattle.laws.proofs.Tests.{or-left}
 use Rattle.format.specs.declared.Head.{Head}
 use Rattle.format.specs.declared.Segment.{Segment}
 use Rattle.format.specs.Network.{Network, entryOf, segmentOf}
-use Rattle.metanet.specs.declared.Row.{Row}
-use Rattle.metanet.specs.Case.{Case, rowOf}
-use Rattle.metanet.specs.Step.{vehiclesIn, freeSpeed, merges, around, stepRow, stepRows, exitsNow, stepOn, totalOf}
-use Rattle.metanet.proofs.Ready.{SegmentOk, RowOk}
+use Rattle.metanet.specs.declared.SegmentState.{SegmentState}
+use Rattle.metanet.specs.Case.{Case, stateOf}
+use Rattle.metanet.specs.Step.{vehiclesIn, freeSpeed, onRamp, neighbours, stepState, stepStates, exitsNow, stepOn, totalOf}
+use Rattle.metanet.proofs.Ready.{SegmentOk, StateOk}
 use Rattle.metanet.specs.Sound.{arrivalNumber, stepNumber}
 use Rattle.metanet.proofs.SegmentLaws.{segment-ok}
-use Rattle.metanet.proofs.SoundLaws.{row-ok}
+use Rattle.metanet.proofs.SoundLaws.{state-ok}
 use Rattle.metanet.proofs.Formed.{sign-kept, setting-kept, speed-formed}
 use Rattle.metanet.proofs.Balance.{FiguresWithin, new-is, balance, figures-within}
 use Rattle.metanet.specs.Line.{stepped, Line, change, caseOf, stepsOf, handedIn, letOut}
 use Rattle.metanet.proofs.Good.{Good}
-use Rattle.metanet.proofs.CaseSound.{row-sound, SoundAt}
+use Rattle.metanet.proofs.CaseSound.{state-sound, SoundAt}
 use Rattle.metanet.proofs.Lines.{net-within, total-le, Changed, good-more}
-use Rattle.metanet.proofs.LineRows.{old-row}
+use Rattle.metanet.proofs.LineStates.{old-state}
 
 -- ---- what the rows 15 and 16 say
 
@@ -52,28 +52,28 @@ module _ {w : Network} {s : Case} {l : Line} (g : Good w s l) (ds : List ℕ) (z
   abbrev c : Case
   c = caseOf w s l
 
-  abbrev new : List Row
-  new = stepRows h (entryOf w) (segmentOf w) (c .rows) (c .steps) ds
+  abbrev new : List SegmentState
+  new = stepStates h (entryOf w) (segmentOf w) (c .states) (c .steps) ds
 
   segments-ok : (i : ℕ) → i < h .size → SegmentOk h (segmentOf w i) (freeSpeed h (entryOf w) (segmentOf w) i)
   segments-ok = segment-ok (net-within (g .net))
 
-  rows-ok : (i : ℕ) → i < h .size → RowOk (segmentOf w i) (freeSpeed h (entryOf w) (segmentOf w) i) (rowOf (c .rows) i)
-  rows-ok i k = row-ok (segmentOf w i) (rowOf (c .rows) i) (merges h (entryOf w) (segmentOf w) i) _ (segments-ok i k .most-high) (row-sound _ _ _ _ (old-row g i k))
+  states-ok : (i : ℕ) → i < h .size → StateOk (segmentOf w i) (freeSpeed h (entryOf w) (segmentOf w) i) (stateOf (c .states) i)
+  states-ok i k = state-ok (segmentOf w i) (stateOf (c .states) i) (onRamp h (entryOf w) (segmentOf w) i) _ (segments-ok i k .most-high) (state-sound _ _ _ _ (old-state g i k))
 
   came-le : sumOf (λ i. getD ds i 0) (h .size) ≤ 40000000
   came-le =
       omega (arith, sum-high (λ i. getD ds i 0) 1000000 (h .size) (arrival-le h (entryOf w) (segmentOf w) (stepsOf l) ds z), net-within (g .net) .head .size-high)
 
-  moved : sumOf (vehiclesIn new) (h .size) + exitsNow h (entryOf w) (segmentOf w) (c .rows) ≡ totalOf w c + sumOf (λ i. getD ds i 0) (h .size)
-  moved = balance h (entryOf w) (segmentOf w) (c .rows) (c .steps) ds segments-ok rows-ok
+  moved : sumOf (vehiclesIn new) (h .size) + exitsNow h (entryOf w) (segmentOf w) (c .states) ≡ totalOf w c + sumOf (λ i. getD ds i 0) (h .size)
+  moved = balance h (entryOf w) (segmentOf w) (c .states) (c .steps) ds segments-ok states-ok
 
   spent : h .step * totalOf w c ≤ 60 * 800168000000
   spent = mul-le-mul (net-within (g .net) .head .step-high) (total-le g)
 
-  figures-le : (i : ℕ) → i < h .size → FiguresWithin (rowOf new i) 1000000000000
+  figures-le : (i : ℕ) → i < h .size → FiguresWithin (stateOf new i) 1000000000000
   figures-le i k =
-      let f = figures-within h (entryOf w) (segmentOf w) (c .rows) (c .steps) ds segments-ok rows-ok i k in
+      let f = figures-within h (entryOf w) (segmentOf w) (c .states) (c .steps) ds segments-ok states-ok i k in
       let t = total-le g in
       record {
         count = omega (arith, f .count, t, came-le);
@@ -82,17 +82,17 @@ module _ {w : Network} {s : Case} {l : Line} (g : Good w s l) (ds : List ℕ) (z
         release = omega (arith, f .release, t, came-le);
       }
 
-  new-row : (i : ℕ) → i < h .size → SoundAt h (entryOf w) (segmentOf w) new i
-  unfolding stepRow
-  new-row i k =
+  new-state : (i : ℕ) → i < h .size → SoundAt h (entryOf w) (segmentOf w) new i
+  unfolding stepState
+  new-state i k =
       let e = entryOf w in
-      let m = merges h e (segmentOf w) i in
+      let m = onRamp h e (segmentOf w) i in
       let f = freeSpeed h e (segmentOf w) i in
-      let r = rowOf (c .rows) i in
+      let r = stateOf (c .states) i in
       let d = getD ds i 0 in
-      let o = around h e (segmentOf w) (c .rows) i in
-      let is = new-is h e (segmentOf w) (c .rows) (c .steps) ds segments-ok rows-ok i k in
-      let old = old-row g i k in
+      let o = neighbours h e (segmentOf w) (c .states) i in
+      let is = new-is h e (segmentOf w) (c .states) (c .steps) ds segments-ok states-ok i k in
+      let old = old-state g i k in
       record {
         figures = figures-le i k;
         sign = rw is (sign-kept h (segmentOf w i) f r (c .steps) d m o ∙ old .sign);
@@ -101,11 +101,11 @@ module _ {w : Network} {s : Case} {l : Line} (g : Good w s l) (ds : List ℕ) (z
       }
 
   step-changes : Changed w c (stepped ds)
-  unfolding change handedIn letOut stepOn stepRows
+  unfolding change handedIn letOut stepOn stepStates
   step-changes =
       record {
-        many = length-table (stepRow h (entryOf w) (segmentOf w) (c .rows) (c .steps) ds) (h .size) ∙ sym (g .many);
-        rows = new-row;
+        many = length-table (stepState h (entryOf w) (segmentOf w) (c .states) (c .steps) ds) (h .size) ∙ sym (g .many);
+        states = new-state;
         steps = refl;
         arrivals = refl;
         exits = refl;

@@ -42,8 +42,8 @@ net-within {w = w} g = rows-within (w .head) (entryOf w) (segmentOf w) (g .withi
 -- ---- what an item makes of a case, as far as every line's record speaks of it
 
 pub record Changed (w : Network) (c : Case) (i : Item) : Type 0 where
-  pub many : length (change w c i .rows) ≡ length (c .rows)
-  pub rows : (k : ℕ) → k < w .head .size → SoundAt (w .head) (entryOf w) (segmentOf w) (change w c i .rows) k
+  pub many : length (change w c i .states) ≡ length (c .states)
+  pub states : (k : ℕ) → k < w .head .size → SoundAt (w .head) (entryOf w) (segmentOf w) (change w c i .states) k
   pub steps : change w c i .steps ≡ c .steps + itemSteps i
   pub arrivals : change w c i .arrivals ≡ c .arrivals + handedIn w i
   pub exits : change w c i .exits ≡ c .exits + letOut w c i
@@ -71,7 +71,7 @@ module _ {w : Network} {s : Case} {l : Line} (g : Good w s l) where
 
     new-sound : caseNumber (w .head) (entryOf w) (segmentOf w) new ≡ 0
     new-sound =
-        case-sound (w .head) (entryOf w) (segmentOf w) new (x .rows)
+        case-sound (w .head) (entryOf w) (segmentOf w) new (x .states)
         (omega (arith, balanced, came-le, g .start-le))
         (omega (arith, x .steps, g .steps-are))
         (omega (arith, x .arrivals, g .arrivals-are, came-le))

@@ -8,12 +8,12 @@ use lib.Ieee.{Float}
 use Rattle.laws.specs.Sums.{sumOf}
 use Rattle.format.specs.Network.{networkFrom}
 use Rattle.format.specs.Words.{headIn, entryIn, segmentIn, networkIn}
-use Rattle.metanet.specs.Case.{Case, rowOf}
-use Rattle.metanet.specs.Step.{vehiclesIn, exitsNow, stepRows, stepOn, stepCase}
-use Rattle.metanet.specs.Words.{netOf, rowsIn, caseIn}
-use Rattle.metanet.proofs.Ready.{RowOk, Ready}
+use Rattle.metanet.specs.Case.{Case, stateOf}
+use Rattle.metanet.specs.Step.{vehiclesIn, exitsNow, stepStates, stepOn, stepCase}
+use Rattle.metanet.specs.Words.{netOf, statesIn, caseIn}
+use Rattle.metanet.proofs.Ready.{StateOk, Ready}
 use Rattle.metanet.proofs.Statements.{StepsTheCase, Balances}
-use Rattle.metanet.proofs.Turns.{row-is, segment-at}
+use Rattle.metanet.proofs.Turns.{state-is, segment-at}
 use Rattle.metanet.proofs.CaseLaws.{case-back}
 use Rattle.metanet.proofs.SameNetwork.{step-from}
 use Rattle.metanet.proofs.Balance.{balance}
@@ -33,21 +33,21 @@ module _ {words : List ℕ} {speeds : List Float} {ds : List ℕ} {at from n : �
   abbrev old : Case
   old = caseIn words speeds at from n
 
-  row-held : (i : ℕ) → i < headIn (netOf words) .size → RowOk (segmentIn (netOf words) i) (entryIn (netOf words) (segmentIn (netOf words) i .curve) 0) (rowOf (rowsIn words speeds at from n) i)
-  row-held i l =
+  state-held : (i : ℕ) → i < headIn (netOf words) .size → StateOk (segmentIn (netOf words) i) (entryIn (netOf words) (segmentIn (netOf words) i .curve) 0) (stateOf (statesIn words speeds at from n) i)
+  state-held i l =
       let m : i < n = omega (arith, ok .size) in
-      rw (row-is ok i m) (ok .row i m)
+      rw (state-is ok i m) (ok .state i m)
 
-  moved : (t : ℕ) → let h = headIn (netOf words) in let rows = rowsIn words speeds at from n in
-      sumOf (vehiclesIn (stepRows h (entryIn (netOf words)) (segmentIn (netOf words)) rows t ds)) (h .size) + exitsNow h (entryIn (netOf words)) (segmentIn (netOf words)) rows
-      ≡ sumOf (vehiclesIn rows) (h .size) + sumOf (λ i. getD ds i 0) (h .size)
+  moved : (t : ℕ) → let h = headIn (netOf words) in let states = statesIn words speeds at from n in
+      sumOf (vehiclesIn (stepStates h (entryIn (netOf words)) (segmentIn (netOf words)) states t ds)) (h .size) + exitsNow h (entryIn (netOf words)) (segmentIn (netOf words)) states
+      ≡ sumOf (vehiclesIn states) (h .size) + sumOf (λ i. getD ds i 0) (h .size)
   moved t =
-      balance (headIn (netOf words)) (entryIn (netOf words)) (segmentIn (netOf words)) (rowsIn words speeds at from n) t ds
-      (λ i l. segment-at ok i (omega (arith, ok .size))) row-held
+      balance (headIn (netOf words)) (entryIn (netOf words)) (segmentIn (netOf words)) (statesIn words speeds at from n) t ds
+      (λ i l. segment-at ok i (omega (arith, ok .size))) state-held
 
   on-words : let h = headIn (netOf words) in
       let new = stepOn h (entryIn (netOf words)) (segmentIn (netOf words)) old ds in
-      sumOf (vehiclesIn (new .rows)) (h .size) + new .exits ≡ sumOf (vehiclesIn (old .rows)) (h .size) + old .exits + sumOf (λ i. getD ds i 0) (h .size)
+      sumOf (vehiclesIn (new .states)) (h .size) + new .exits ≡ sumOf (vehiclesIn (old .states)) (h .size) + old .exits + sumOf (λ i. getD ds i 0) (h .size)
   unfolding stepOn caseIn
   on-words = regroup _ _ _ _ _ (moved (getD words (at + 16 * n) 0))
     where
@@ -57,6 +57,6 @@ module _ {words : List ℕ} {speeds : List Float} {ds : List ℕ} {at from n : �
 pub balances : Balances
 unfolding networkFrom
 balances words speeds ds at from n ok =
-    ap (λ (c : Case). sumOf (vehiclesIn (c .rows)) (headIn (netOf words) .size) + c .exits) (step-on-words ok (caseIn words speeds at from n))
+    ap (λ (c : Case). sumOf (vehiclesIn (c .states)) (headIn (netOf words) .size) + c .exits) (step-on-words ok (caseIn words speeds at from n))
     ∙ on-words ok
-    ∙ ap (λ (m : ℕ). sumOf (vehiclesIn (caseIn words speeds at from n .rows)) (headIn (netOf words) .size) + caseIn words speeds at from n .exits + sumOf (λ i. getD ds i 0) m) (sym (ok .size))
+    ∙ ap (λ (m : ℕ). sumOf (vehiclesIn (caseIn words speeds at from n .states)) (headIn (netOf words) .size) + caseIn words speeds at from n .exits + sumOf (λ i. getD ds i 0) m) (sym (ok .size))

@@ -1,4 +1,4 @@
--- What is read back of the words and speeds that a step leaves: the rows of the step.
+-- What is read back of the words and speeds that a step leaves: the states of the step.
 use Prim.Native.Nat.{ℕ, _+_, _*_, _<_}
 use native.Mathlib.Omega.{arith}
 use mathlib.Core.Path.{_≡_, sym, ap, _∙_}
@@ -10,20 +10,20 @@ use Rattle.laws.specs.Lists.{table, part}
 use Rattle.laws.proofs.Lists.{table-ext, getD-set, getD-take-test}
 use Rattle.laws.proofs.Puts.{puts-at}
 use Rattle.format.specs.Words.{headIn, entryIn, segmentIn}
-use Rattle.metanet.specs.declared.Row.{Row}
-use Rattle.metanet.specs.Case.{rowOf}
-use Rattle.metanet.specs.Step.{made, stepRow, stepRows}
-use Rattle.metanet.specs.Words.{netOf, rowIn, rowAt, rowsIn, rowWords, newRow, newWords, newSpeeds, stepWords, stepSpeeds}
+use Rattle.metanet.specs.declared.SegmentState.{SegmentState}
+use Rattle.metanet.specs.Case.{stateOf}
+use Rattle.metanet.specs.Step.{newState, stepState, stepStates}
+use Rattle.metanet.specs.Words.{netOf, stateIn, stateAt, statesIn, steppedWords, stepStateIn, newWords, newSpeeds, stepWords, stepSpeeds}
 use Rattle.metanet.proofs.Ready.{Ready}
-use Rattle.metanet.proofs.Turns.{row-is, words-each, speeds-each, speeds-room}
+use Rattle.metanet.proofs.Turns.{state-is, words-each, speeds-each, speeds-room}
 
--- a row stands in 16 words
-pub row-take : (w : List ℕ) (v : Float) → rowIn (part 0 16 w) v ≡ rowIn w v
-unfolding rowIn
-row-take w v = simp getD-take-test
+-- a state stands in 16 words
+pub state-take : (w : List ℕ) (v : Float) → stateIn (part 0 16 w) v ≡ stateIn w v
+unfolding stateIn
+state-take w v = simp getD-take-test
 
--- the settings of a row, which a step leaves as they are
-record SettingsOf (r q : Row) : Type 0 where
+-- the settings of a state, which a step leaves as they are
+record SettingsOf (r q : SegmentState) : Type 0 where
   limit : r .limit ≡ q .limit
   compliance : r .compliance ≡ q .compliance
   kind : r .kind ≡ q .kind
@@ -33,9 +33,9 @@ record SettingsOf (r q : Row) : Type 0 where
   interval : r .interval ≡ q .interval
 
 -- the figures that a step makes are r's, and the settings are the old ones
-row-words : (w : List ℕ) (v : Float) (r : Row) → length w ≡ 16 → SettingsOf r (rowIn w v) → rowIn (rowWords w r) (r .speed) ≡ r
-unfolding rowIn rowWords
-row-words w v r h s =
+state-words : (w : List ℕ) (v : Float) (r : SegmentState) → length w ≡ 16 → SettingsOf r (stateIn w v) → stateIn (steppedWords w r) (r .speed) ≡ r
+unfolding stateIn steppedWords
+state-words w v r h s =
     simp (getD-set, length-set, h)
     (λ j. record {
       count = r .count;
@@ -54,7 +54,7 @@ row-words w v r h s =
     })
 
 module _ {ws : List ℕ} {vs : List Float} {ds : List ℕ} {at from n : ℕ} (ok : Ready ws vs ds at from n) (t : ℕ) where
-  speed-back : (i : ℕ) → i < n → getD (stepSpeeds ws vs at from n t ds) (from + i) nan ≡ newRow ws vs at from n t ds i .speed
+  speed-back : (i : ℕ) → i < n → getD (stepSpeeds ws vs at from n t ds) (from + i) nan ≡ stepStateIn ws vs at from n t ds i .speed
   speed-back i h =
       ap (λ (k : ℕ). getD (stepSpeeds ws vs at from n t ds) k nan) (same i)
       ∙ sym (getD-drop (from + 1 * i) (stepSpeeds ws vs at from n t ds) 0 nan)
@@ -64,32 +64,32 @@ module _ {ws : List ℕ} {vs : List Float} {ds : List ℕ} {at from n : ℕ} (ok
       same : (i : ℕ) → from + i ≡ from + 1 * i + 0
       same i = omega arith
 
-  settings-kept : (i : ℕ) → i < n → (v : Float) → SettingsOf (newRow ws vs at from n t ds i) (rowIn (part (at + 16 * i) 16 ws) v)
-  unfolding stepRow made rowIn
+  settings-kept : (i : ℕ) → i < n → (v : Float) → SettingsOf (stepStateIn ws vs at from n t ds i) (stateIn (part (at + 16 * i) 16 ws) v)
+  unfolding stepState newState stateIn
   settings-kept i h v =
       record {
-        limit = old (λ (r : Row). r .limit) ∙ sym (getD-take 16 (drop (at + 16 * i) ws) 2 0 (omega arith));
-        compliance = old (λ (r : Row). r .compliance) ∙ sym (getD-take 16 (drop (at + 16 * i) ws) 3 0 (omega arith));
-        kind = old (λ (r : Row). r .kind) ∙ sym (getD-take 16 (drop (at + 16 * i) ws) 4 0 (omega arith));
-        target = old (λ (r : Row). r .target) ∙ sym (getD-take 16 (drop (at + 16 * i) ws) 6 0 (omega arith));
-        gain = old (λ (r : Row). r .gain) ∙ sym (getD-take 16 (drop (at + 16 * i) ws) 7 0 (omega arith));
-        least = old (λ (r : Row). r .least) ∙ sym (getD-take 16 (drop (at + 16 * i) ws) 8 0 (omega arith));
-        interval = old (λ (r : Row). r .interval) ∙ sym (getD-take 16 (drop (at + 16 * i) ws) 9 0 (omega arith));
+        limit = old (λ (r : SegmentState). r .limit) ∙ sym (getD-take 16 (drop (at + 16 * i) ws) 2 0 (omega arith));
+        compliance = old (λ (r : SegmentState). r .compliance) ∙ sym (getD-take 16 (drop (at + 16 * i) ws) 3 0 (omega arith));
+        kind = old (λ (r : SegmentState). r .kind) ∙ sym (getD-take 16 (drop (at + 16 * i) ws) 4 0 (omega arith));
+        target = old (λ (r : SegmentState). r .target) ∙ sym (getD-take 16 (drop (at + 16 * i) ws) 6 0 (omega arith));
+        gain = old (λ (r : SegmentState). r .gain) ∙ sym (getD-take 16 (drop (at + 16 * i) ws) 7 0 (omega arith));
+        least = old (λ (r : SegmentState). r .least) ∙ sym (getD-take 16 (drop (at + 16 * i) ws) 8 0 (omega arith));
+        interval = old (λ (r : SegmentState). r .interval) ∙ sym (getD-take 16 (drop (at + 16 * i) ws) 9 0 (omega arith));
       }
     where
-      old : (g : Row → ℕ) → g (rowOf (rowsIn ws vs at from n) i) ≡ g (rowAt ws vs at from i)
-      old g = ap g (row-is ok i h)
+      old : (g : SegmentState → ℕ) → g (stateOf (statesIn ws vs at from n) i) ≡ g (stateAt ws vs at from i)
+      old g = ap g (state-is ok i h)
 
-  -- the row that is read back is the new row
-  row-back : (i : ℕ) → i < n → rowAt (stepWords ws vs at from n t ds) (stepSpeeds ws vs at from n t ds) at from i ≡ newRow ws vs at from n t ds i
-  row-back i h =
-      sym (row-take (drop (at + 16 * i) (stepWords ws vs at from n t ds)) (getD (stepSpeeds ws vs at from n t ds) (from + i) nan))
-      ∙ (λ j. rowIn (puts-at 16 (newWords ws vs at from n t ds) at n ws (words-each ok t) (ok .room) i h j) (speed-back i h j))
-      ∙ row-words (part (at + 16 * i) 16 ws) nan (newRow ws vs at from n t ds i) (simp (length-take, length-drop) (omega (arith, ok .room))) (settings-kept i h nan)
+  -- the state that is read back is the new state
+  state-back : (i : ℕ) → i < n → stateAt (stepWords ws vs at from n t ds) (stepSpeeds ws vs at from n t ds) at from i ≡ stepStateIn ws vs at from n t ds i
+  state-back i h =
+      sym (state-take (drop (at + 16 * i) (stepWords ws vs at from n t ds)) (getD (stepSpeeds ws vs at from n t ds) (from + i) nan))
+      ∙ (λ j. stateIn (puts-at 16 (newWords ws vs at from n t ds) at n ws (words-each ok t) (ok .room) i h j) (speed-back i h j))
+      ∙ state-words (part (at + 16 * i) 16 ws) nan (stepStateIn ws vs at from n t ds i) (simp (length-take, length-drop) (omega (arith, ok .room))) (settings-kept i h nan)
 
-  -- a step of the words is a step of the rows
-  pub rows-back : rowsIn (stepWords ws vs at from n t ds) (stepSpeeds ws vs at from n t ds) at from n ≡ stepRows (headIn (netOf ws)) (entryIn (netOf ws)) (segmentIn (netOf ws)) (rowsIn ws vs at from n) t ds
-  unfolding rowsIn stepRows
-  rows-back =
-      table-ext (rowAt (stepWords ws vs at from n t ds) (stepSpeeds ws vs at from n t ds) at from) (newRow ws vs at from n t ds) n row-back
-      ∙ ap (table (newRow ws vs at from n t ds)) (ok .size)
+  -- a step of the words is a step of the states
+  pub states-back : statesIn (stepWords ws vs at from n t ds) (stepSpeeds ws vs at from n t ds) at from n ≡ stepStates (headIn (netOf ws)) (entryIn (netOf ws)) (segmentIn (netOf ws)) (statesIn ws vs at from n) t ds
+  unfolding statesIn stepStates
+  states-back =
+      table-ext (stateAt (stepWords ws vs at from n t ds) (stepSpeeds ws vs at from n t ds) at from) (stepStateIn ws vs at from n t ds) n state-back
+      ∙ ap (table (stepStateIn ws vs at from n t ds)) (ok .size)

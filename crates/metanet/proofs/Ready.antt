@@ -11,11 +11,11 @@ use Rattle.format.specs.declared.Head.{Head}
 use Rattle.format.specs.declared.Segment.{Segment}
 use Rattle.format.proofs.Accepted.{RowsWithin}
 use Rattle.format.specs.Words.{headIn, entryIn, segmentIn}
-use Rattle.metanet.specs.declared.Row.{Row}
+use Rattle.metanet.specs.declared.SegmentState.{SegmentState}
 use Rattle.metanet.specs.Case.{alineaKind}
 use Rattle.metanet.specs.Speed.{area}
-use Rattle.metanet.specs.Step.{made, desiredSpeed}
-use Rattle.metanet.specs.Words.{netOf, rowIn, rowAt, stepWords, stepSpeeds, leaving}
+use Rattle.metanet.specs.Step.{newState, desiredSpeed}
+use Rattle.metanet.specs.Words.{netOf, stateIn, stateAt, stepWords, stepSpeeds, leaving}
 
 -- length and lanes are such that G is 1..16,000
 pub record AreaOk (s : Segment) : Type 0 where
@@ -39,8 +39,8 @@ pub record SegmentOk (h : Head) (s : Segment) (f : ℕ) : Type 0 where
   pub fast : f ≤ 200000
   pub reach : f * h .step ≤ 3600 * s .metres
 
--- what a step asks of a row: less than that it is sound
-pub record RowOk (s : Segment) (f : ℕ) (r : Row) : Type 0 where
+-- what a step asks of a state: less than that it is sound
+pub record StateOk (s : Segment) (f : ℕ) (r : SegmentState) : Type 0 where
   pub count : r .count ≤ 1000000000000
   pub queue : r .queue ≤ 1000000000000
   pub limit : r .limit ≤ 200
@@ -63,7 +63,7 @@ pub record CaseAt (words : List ℕ) (speeds : List Float) (at from n : ℕ) : T
   pub size : n ≡ headIn (netOf words) .size
   pub past : 2560 ≤ at
   pub room : at + 16 * n + 8 ≤ length words
-  pub lane : from + n ≤ length speeds
+  pub speed-room : from + n ≤ length speeds
 
 -- the whole step: the network in the first 2,560 words, n its size, a case at at and from, n arrivals
 pub record Ready (words : List ℕ) (speeds : List Float) (ds : List ℕ) (at from n : ℕ) : Type 0 where
@@ -71,9 +71,9 @@ pub record Ready (words : List ℕ) (speeds : List Float) (ds : List ℕ) (at fr
   pub size : n ≡ headIn (netOf words) .size
   pub past : 2560 ≤ at
   pub room : at + 16 * n ≤ length words
-  pub lane : from + n ≤ length speeds
+  pub speed-room : from + n ≤ length speeds
   pub arrivals : length ds ≡ n
-  pub row : (i : ℕ) → i < n → RowOk (segmentIn (netOf words) i) (entryIn (netOf words) (segmentIn (netOf words) i .curve) 0) (rowAt words speeds at from i)
+  pub state : (i : ℕ) → i < n → StateOk (segmentIn (netOf words) i) (entryIn (netOf words) (segmentIn (netOf words) i .curve) 0) (stateAt words speeds at from i)
   pub arrival : (i : ℕ) → i < n → getD ds i 0 ≤ 1000000
 
 -- totals that a step can add to; a sound case's are lower
@@ -84,7 +84,7 @@ pub record TotalsOk (words : List ℕ) (e : ℕ) : Type 0 where
   pub exits : getD words (e + 2) 0 ≤ 1000000000000000000
   pub time : getD words (e + 3) 0 ≤ 1000000000000000000
 
--- ---- one segment, from the network's words, the words from its row on and what was carried along
+-- ---- one segment, from the network's words, the words from its state on and what was carried along
 
 unfoldable pub afterIn : List ℕ → List ℕ → ℕ → ℕ → Segment → ℕ → Float
 afterIn net rest i n s count =
@@ -92,18 +92,18 @@ afterIn net rest i n s count =
     (real (getD rest 16 0) ⊘ real (area (segmentIn net (i + 1))))
     (cond (ltb count (s .critical * area s)) (real count ⊘ real (area s)) (real (s .critical)))
 
-unfoldable pub freshIn : List ℕ → List ℕ → Float → ℕ → ℕ → ℕ → ℕ → ℕ → Float → Row
-freshIn net rest v d i n t passed before =
+unfoldable pub newStateIn : List ℕ → List ℕ → Float → ℕ → ℕ → ℕ → ℕ → ℕ → Float → SegmentState
+newStateIn net rest v d i n t passed before =
     let s = segmentIn net i in
-    made (headIn net) s (entryIn net (s .curve) 0) (rowIn rest v) t d (eqb (s .origin) 1 && ltb 0 i)
+    newState (headIn net) s (entryIn net (s .curve) 0) (stateIn rest v) t d (eqb (s .origin) 1 && ltb 0 i)
     (record {
       passed = passed;
       before = before;
-      after = afterIn net rest i n s (rowIn rest v .count);
-      want = desiredSpeed (entryIn net (s .curve)) s (rowIn rest v);
+      after = afterIn net rest i n s (stateIn rest v .count);
+      want = desiredSpeed (entryIn net (s .curve)) s (stateIn rest v);
     })
 
-pub record FreshOk (words : List ℕ) (a : ℕ) (v : Float) (d i n pass : ℕ) : Type 0 where
+pub record NewStateOk (words : List ℕ) (a : ℕ) (v : Float) (d i n pass : ℕ) : Type 0 where
   pub net : NetworkOk words
   pub size : n ≡ headIn (netOf words) .size
   pub long : 2560 ≤ length words
@@ -112,12 +112,12 @@ pub record FreshOk (words : List ℕ) (a : ℕ) (v : Float) (d i n pass : ℕ) :
   pub next : i + 1 < n → getD (drop a words) 16 0 ≤ 1000000000000
   pub arrival : d ≤ 1000000
   pub passed : pass ≤ 1000000000000
-  pub row : RowOk (segmentIn (netOf words) i) (entryIn (netOf words) (segmentIn (netOf words) i .curve) 0) (rowIn (drop a words) v)
+  pub state : StateOk (segmentIn (netOf words) i) (entryIn (netOf words) (segmentIn (netOf words) i .curve) 0) (stateIn (drop a words) v)
 
--- what a step of the rows leaves, and what it counts out: at most 40 exit parts and what leaves after the last segment
+-- what a step of the states leaves, and what it counts out: at most 40 exit parts and what leaves after the last segment
 pub record Stepped (words : List ℕ) (speeds : List Float) (ds : List ℕ) (at from n t : ℕ) (words' : List ℕ) (speeds' : List Float) (left : ℕ) : Type 0 where
   pub makes : words' ≡ stepWords words speeds at from n t ds
-  pub paces : speeds' ≡ stepSpeeds words speeds at from n t ds
+  pub initial : speeds' ≡ stepSpeeds words speeds at from n t ds
   pub leaves : left ≡ leaving words speeds at from n
   pub bound : left ≤ 41 * 1000000000000
 

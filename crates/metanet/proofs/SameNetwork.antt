@@ -18,12 +18,12 @@ use Rattle.format.specs.declared.Head.{Head}
 use Rattle.format.specs.declared.Segment.{Segment}
 use Rattle.format.specs.Network.{Network, networkFrom, entryOf, segmentOf}
 use Rattle.format.proofs.From.{from-entry, from-segment}
-use Rattle.metanet.specs.declared.Row.{Row}
-use Rattle.metanet.specs.Case.{Case, rowOf}
+use Rattle.metanet.specs.declared.SegmentState.{SegmentState}
+use Rattle.metanet.specs.Case.{Case, stateOf}
 use Rattle.metanet.specs.Flow.{exitPart}
-use Rattle.metanet.specs.Speed.{area, curveSpeed, signed}
-use Rattle.metanet.specs.Step.{signOf, desiredSpeed, outflowNow, through, made, vehiclesIn, upstream, inflow, downstream, freeSpeed, merges, stepRow, stepRows, exitNow, exitsNow, stepOn, stepCase}
-use Rattle.metanet.specs.Sound.{stepsMost, rowBad, totalsBad, rowNumber, caseNumber, arrivalNumber, stepNumber}
+use Rattle.metanet.specs.Speed.{area, curveSpeed, underSign}
+use Rattle.metanet.specs.Step.{signOf, desiredSpeed, outflowNow, through, newState, vehiclesIn, upstream, inflow, downstream, freeSpeed, onRamp, stepState, stepStates, exitNow, exitsNow, stepOn, stepCase}
+use Rattle.metanet.specs.Sound.{stepsMost, stateBad, totalsBad, stateNumber, caseNumber, arrivalNumber, stepNumber}
 
 -- the speed of a curve, from the entries up to 200
 curve-speed-same : (e f : ℕ → ℕ) (n g : ℕ) → ((j : ℕ) → j < 201 → e j ≡ f j) → curveSpeed e n g ≡ curveSpeed f n g
@@ -39,48 +39,48 @@ module _ (h : Head) (e f : ℕ → ℕ → ℕ) (s u : ℕ → Segment)
   free-same : (i : ℕ) → i < h .size → freeSpeed h e s i ≡ freeSpeed h f u i
   free-same i l = entries (s i .curve) 0 (curves i l) (lit< tt) ∙ ap (λ (x : Segment). f (x .curve) 0) (segments i l)
 
-  want-same : (r : Row) (i : ℕ) → i < h .size → desiredSpeed (e (s i .curve)) (s i) r ≡ desiredSpeed (f (u i .curve)) (u i) r
+  want-same : (r : SegmentState) (i : ℕ) → i < h .size → desiredSpeed (e (s i .curve)) (s i) r ≡ desiredSpeed (f (u i .curve)) (u i) r
   unfolding desiredSpeed
   want-same r i l =
-      ap (λ (v : Float). signed v (signOf r)) (curve-speed-same (e (s i .curve)) (f (s i .curve)) (r .count) (area (s i)) (λ j m. entries (s i .curve) j (curves i l) m))
-      ∙ ap (λ (x : Segment). signed (curveSpeed (f (x .curve)) (r .count) (area x)) (signOf r)) (segments i l)
+      ap (λ (v : Float). underSign v (signOf r)) (curve-speed-same (e (s i .curve)) (f (s i .curve)) (r .count) (area (s i)) (λ j m. entries (s i .curve) j (curves i l) m))
+      ∙ ap (λ (x : Segment). underSign (curveSpeed (f (x .curve)) (r .count) (area x)) (signOf r)) (segments i l)
 
-  module _ (rows : List Row) where
-    inflow-same : (i : ℕ) → i ≤ h .size → inflow h e s rows i ≡ inflow h f u rows i
+  module _ (states : List SegmentState) where
+    inflow-same : (i : ℕ) → i ≤ h .size → inflow h e s states i ≡ inflow h f u states i
     unfolding inflow
     inflow-same zero l = refl
-    inflow-same (suc i) l = ap (λ (x : Segment). through h x (rowOf rows i)) (segments i l)
+    inflow-same (suc i) l = ap (λ (x : Segment). through h x (stateOf states i)) (segments i l)
 
-    down-same : (i : ℕ) → i < h .size → downstream h e s rows i ≡ downstream h f u rows i
+    down-same : (i : ℕ) → i < h .size → downstream h e s states i ≡ downstream h f u states i
     unfolding downstream
     down-same i l = go (ltb (i + 1) (h .size)) refl
       where
-        go : (b : Bool) → ltb (i + 1) (h .size) ≡ b → downstream h e s rows i ≡ downstream h f u rows i
+        go : (b : Bool) → ltb (i + 1) (h .size) ≡ b → downstream h e s states i ≡ downstream h f u states i
         go true q = simp (q, segments (i + 1) (ltb-true (i + 1) (h .size) q))
         go false q = simp (q, segments i l)
 
-    row-same : (t : ℕ) (ds : List ℕ) (i : ℕ) → i < h .size → stepRow h e s rows t ds i ≡ stepRow h f u rows t ds i
-    unfolding stepRow
-    row-same t ds i l =
-        λ j. made h (segments i l j) (free-same i l j) (rowOf rows i) t (getD ds i 0) (merges h f (λ k. segments i l j) i)
-        (record { passed = inflow-same i (omega arith) j; before = upstream rows i; after = down-same i l j; want = want-same (rowOf rows i) i l j })
+    state-same : (t : ℕ) (ds : List ℕ) (i : ℕ) → i < h .size → stepState h e s states t ds i ≡ stepState h f u states t ds i
+    unfolding stepState
+    state-same t ds i l =
+        λ j. newState h (segments i l j) (free-same i l j) (stateOf states i) t (getD ds i 0) (onRamp h f (λ k. segments i l j) i)
+        (record { passed = inflow-same i (omega arith) j; before = upstream states i; after = down-same i l j; want = want-same (stateOf states i) i l j })
 
-    exit-same : (i : ℕ) → i < h .size → exitNow h e s rows i ≡ exitNow h f u rows i
-    exit-same i l = ap (λ (x : Segment). exitPart (outflowNow h x (rowOf rows i)) (x .exit)) (segments i l)
+    exit-same : (i : ℕ) → i < h .size → exitNow h e s states i ≡ exitNow h f u states i
+    exit-same i l = ap (λ (x : Segment). exitPart (outflowNow h x (stateOf states i)) (x .exit)) (segments i l)
 
-    exits-same : exitsNow h e s rows ≡ exitsNow h f u rows
-    exits-same = λ j. sum-ext (exitNow h e s rows) (exitNow h f u rows) (h .size) exit-same j + inflow-same (h .size) (omega arith) j
+    exits-same : exitsNow h e s states ≡ exitsNow h f u states
+    exits-same = λ j. sum-ext (exitNow h e s states) (exitNow h f u states) (h .size) exit-same j + inflow-same (h .size) (omega arith) j
 
   -- ---- what judges a case, and a step's arrivals
-  row-number-same : (rows : List Row) (i : ℕ) → i < h .size → rowNumber h e s rows i ≡ rowNumber h f u rows i
-  unfolding rowNumber
-  row-number-same rows i l = λ j. row (rowBad (merges h f (λ k. segments i l j) i) (segments i l j) (free-same i l j) (rowOf rows i)) 12 0
+  state-number-same : (states : List SegmentState) (i : ℕ) → i < h .size → stateNumber h e s states i ≡ stateNumber h f u states i
+  unfolding stateNumber
+  state-number-same states i l = λ j. row (stateBad (onRamp h f (λ k. segments i l j) i) (segments i l j) (free-same i l j) (stateOf states i)) 12 0
 
   pub case-number-same : (c : Case) → caseNumber h e s c ≡ caseNumber h f u c
   unfolding caseNumber
   case-number-same c =
-      ap (λ (m : ℕ). first m (row (totalsBad (sumOf (vehiclesIn (c .rows)) (h .size)) (c .steps) (c .arrivals) (c .exits) (c .time)) 12 0))
-      (firstOf-ext (rowNumber h e s (c .rows)) (rowNumber h f u (c .rows)) (h .size) (row-number-same (c .rows)))
+      ap (λ (m : ℕ). first m (row (totalsBad (sumOf (vehiclesIn (c .states)) (h .size)) (c .steps) (c .arrivals) (c .exits) (c .time)) 12 0))
+      (firstOf-ext (stateNumber h e s (c .states)) (stateNumber h f u (c .states)) (h .size) (state-number-same (c .states)))
 
   arrival-number-same : (ds : List ℕ) (i : ℕ) → i < h .size → arrivalNumber h e s ds i ≡ arrivalNumber h f u ds i
   unfolding arrivalNumber
@@ -94,14 +94,14 @@ module _ (h : Head) (e f : ℕ → ℕ → ℕ) (s u : ℕ → Segment)
       (firstOf-ext (arrivalNumber h e s ds) (arrivalNumber h f u ds) (h .size) (arrival-number-same ds))
 
   pub step-same : (c : Case) (ds : List ℕ) → stepOn h e s c ds ≡ stepOn h f u c ds
-  unfolding stepOn stepRows
+  unfolding stepOn stepStates
   step-same c ds =
       λ j. record {
-        rows = table-ext (stepRow h e s (c .rows) (c .steps) ds) (stepRow h f u (c .rows) (c .steps) ds) (h .size) (row-same (c .rows) (c .steps) ds) j;
+        states = table-ext (stepState h e s (c .states) (c .steps) ds) (stepState h f u (c .states) (c .steps) ds) (h .size) (state-same (c .states) (c .steps) ds) j;
         steps = c .steps + 1;
         arrivals = c .arrivals + sumOf (λ i. getD ds i 0) (h .size);
-        exits = c .exits + exits-same (c .rows) j;
-        time = c .time + h .step * sumOf (vehiclesIn (c .rows)) (h .size);
+        exits = c .exits + exits-same (c .states) j;
+        time = c .time + h .step * sumOf (vehiclesIn (c .states)) (h .size);
       }
 
 -- ---- the network that is given by head, entries and segments

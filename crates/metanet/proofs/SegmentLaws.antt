@@ -12,12 +12,12 @@ use Rattle.format.specs.declared.Head.{Head}
 use Rattle.format.specs.declared.Segment.{Segment}
 use Rattle.format.specs.Words.{headIn, entryIn, segmentIn}
 use Rattle.format.proofs.Accepted.{RowsWithin}
-use Rattle.metanet.specs.declared.Row.{Row}
+use Rattle.metanet.specs.declared.SegmentState.{SegmentState}
 use Rattle.metanet.specs.Case.{openKind, alineaKind}
 use Rattle.metanet.specs.Flow.{exitPart, alineaRate, moved, rateChange}
 use Rattle.metanet.specs.Speed.{area, keep}
 use Rattle.metanet.specs.Step.{rateOf, rateNow, releaseNow, outflowNow, through}
-use Rattle.metanet.proofs.Ready.{AreaOk, SegmentOk, RowOk}
+use Rattle.metanet.proofs.Ready.{AreaOk, SegmentOk, StateOk}
 
 -- ---- what acceptance of the network says of segment i
 
@@ -59,7 +59,7 @@ outflow-le n s f t l h k =
     (le-trans (le-of-eq (mul-assoc n s t))
     (le-trans (mul-le-mul-left n (le-trans (mul-le-mul-right t h) k)) (le-of-eq (mul-comm n (3600 * l)))))
 
-module _ {h : Head} {s : Segment} {f : ℕ} {r : Row} (S : SegmentOk h s f) (R : RowOk s f r) where
+module _ {h : Head} {s : Segment} {f : ℕ} {r : SegmentState} (S : SegmentOk h s f) (R : StateOk s f r) where
   pub truncating-speed : Truncates (r .speed)
   truncating-speed = truncating 1000 f (r .speed) (lit< tt) (S .slow) (omega (arith, S .fast)) (R .low) (R .high)
 

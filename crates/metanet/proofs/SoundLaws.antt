@@ -20,27 +20,27 @@ use Rattle.laws.proofs.Lists.{getD-table}
 use Rattle.format.specs.Words.{headIn, entryIn, segmentIn}
 use Rattle.laws.proofs.Tests.{or-left, or-right, and-left, and-right, anyOf-false, inside-low, inside-high}
 use Rattle.format.specs.declared.Segment.{Segment}
-use Rattle.metanet.specs.declared.Row.{Row}
-use Rattle.metanet.specs.Case.{noRow, rowOf, alineaKind}
-use Rattle.metanet.specs.Step.{vehiclesIn, freeSpeed, merges}
-use Rattle.metanet.specs.Words.{netOf, rowIn, rowAt, rowsIn, caseIn}
-use Rattle.metanet.proofs.Ready.{RowOk, CaseAt, Ready, TotalsOk, vehiclesAt}
+use Rattle.metanet.specs.declared.SegmentState.{SegmentState}
+use Rattle.metanet.specs.Case.{noState, stateOf, alineaKind}
+use Rattle.metanet.specs.Step.{vehiclesIn, freeSpeed, onRamp}
+use Rattle.metanet.specs.Words.{netOf, stateIn, stateAt, statesIn, caseIn}
+use Rattle.metanet.proofs.Ready.{StateOk, CaseAt, Ready, TotalsOk, vehiclesAt}
 use Rattle.metanet.proofs.SegmentLaws.{segment-ok}
-use Rattle.metanet.specs.Sound.{signBad, hasAlinea, openBad, fixedBad, alineaBad, settingBad, speedBad, rowBad, totalsBad, rowNumber, caseNumber, arrivalNumber, stepNumber}
+use Rattle.metanet.specs.Sound.{signBad, hasAlinea, openBad, fixedBad, alineaBad, settingBad, speedBad, stateBad, totalsBad, stateNumber, caseNumber, arrivalNumber, stepNumber}
 
-pub row-read : (words : List ℕ) (speeds : List Float) (at from n i : ℕ) → i < n → rowOf (rowsIn words speeds at from n) i ≡ rowAt words speeds at from i
-unfolding rowsIn
-row-read words speeds at from n i h = getD-table (rowAt words speeds at from) n i noRow h
+pub state-read : (words : List ℕ) (speeds : List Float) (at from n i : ℕ) → i < n → stateOf (statesIn words speeds at from n) i ≡ stateAt words speeds at from i
+unfolding statesIn
+state-read words speeds at from n i h = getD-table (stateAt words speeds at from) n i noState h
 
 -- the mv of a case, read in the words
-pub vehicles-are : (words : List ℕ) (speeds : List Float) (at from n i : ℕ) → i < n → vehiclesAt words at i ≡ vehiclesIn (rowsIn words speeds at from n) i
-unfolding rowIn
-vehicles-are words speeds at from n i l = simp (row-read words speeds at from n i l, getD-drop, add-zero)
+pub vehicles-are : (words : List ℕ) (speeds : List Float) (at from n i : ℕ) → i < n → vehiclesAt words at i ≡ vehiclesIn (statesIn words speeds at from n) i
+unfolding stateIn
+vehicles-are words speeds at from n i l = simp (state-read words speeds at from n i l, getD-drop, add-zero)
 
-pub vehicles-sum : (words : List ℕ) (speeds : List Float) (at from n : ℕ) → sumOf (vehiclesAt words at) n ≡ sumOf (vehiclesIn (rowsIn words speeds at from n)) n
-vehicles-sum words speeds at from n = sum-ext (vehiclesAt words at) (vehiclesIn (rowsIn words speeds at from n)) n (vehicles-are words speeds at from n)
+pub vehicles-sum : (words : List ℕ) (speeds : List Float) (at from n : ℕ) → sumOf (vehiclesAt words at) n ≡ sumOf (vehiclesIn (statesIn words speeds at from n)) n
+vehicles-sum words speeds at from n = sum-ext (vehiclesAt words at) (vehiclesIn (statesIn words speeds at from n)) n (vehicles-are words speeds at from n)
 
--- ---- what a row that is not bad says
+-- ---- what a state that is not bad says
 
 truth : {b : Bool} → b ≡ true → T b
 truth e = subst T (sym e) tt
@@ -51,14 +51,14 @@ sign-limits false l a e z =
     (inside-high 20 l 200 (or-left (outside 20 l 200) (ltb 1000 a) z), ltb-false 1000 a (or-right (outside 20 l 200) (ltb 1000 a) z))
 
 -- the figures of a setting
-record Setting (s : Segment) (r : Row) : Type 0 where
+record Setting (s : Segment) (r : SegmentState) : Type 0 where
   rate : r .rate ≤ s .most
   target : r .target ≤ 199
   gain : r .gain ≤ 60000
   least : r .least ≤ s .most
   interval : r .kind ≡ alineaKind → 0 < r .interval
 
-module _ (s : Segment) (r : Row) where
+module _ (s : Segment) (r : SegmentState) where
   -- of a setting that is not ALINEA's
   plain : hasAlinea r ≡ false → r .rate ≤ s .most → (r .kind ≡ alineaKind → ⊥) → Setting s r
   unfolding hasAlinea
@@ -104,9 +104,9 @@ module _ (s : Segment) (r : Row) where
   unfolding settingBad
   setting-of m z = pick-setting m _ _ _ refl refl refl z
 
-  pub row-ok : (m : Bool) (f : ℕ) → s .most ≤ 300000 → rowBad m s f r ≡ false → RowOk s f r
-  unfolding rowBad signBad speedBad
-  row-ok m f most z =
+  pub state-ok : (m : Bool) (f : ℕ) → s .most ≤ 300000 → stateBad m s f r ≡ false → StateOk s f r
+  unfolding stateBad signBad speedBad
+  state-ok m f most z =
       let no = anyOf-false _ z in
       let sign = sign-limits _ (r .limit) (r .compliance) refl (no 4) in
       let setting = setting-of m (no 5) in
@@ -131,29 +131,29 @@ module _ {words : List ℕ} {speeds : List Float} {at from n : ℕ} (at-place : 
   abbrev net : List ℕ
   net = netOf words
 
-  abbrev rows : List Row
-  rows = rowsIn words speeds at from n
+  abbrev states : List SegmentState
+  states = statesIn words speeds at from n
 
-  -- row i, where it passed
-  pub row-sound : (i : ℕ) → i < n → rowNumber (headIn net) (entryIn net) (segmentIn net) rows i ≡ 0
-      → RowOk (segmentIn net i) (entryIn net (segmentIn net i .curve) 0) (rowAt words speeds at from i)
-  unfolding rowNumber
-  row-sound i l z =
+  -- state i, where it passed
+  pub state-sound : (i : ℕ) → i < n → stateNumber (headIn net) (entryIn net) (segmentIn net) states i ≡ 0
+      → StateOk (segmentIn net i) (entryIn net (segmentIn net i .curve) 0) (stateAt words speeds at from i)
+  unfolding stateNumber
+  state-sound i l z =
       let S = segment-ok (at-place .net) i (omega (arith, at-place .size)) in
       let h = headIn net in
       let e = entryIn net in
       let s = segmentIn net in
-      rw (row-read words speeds at from n i l) at (row-ok (s i) (rowOf rows i) (merges h e s i) (freeSpeed h e s i) (S .most-high) (row-passed _ _ _ z))
+      rw (state-read words speeds at from n i l) at (state-ok (s i) (stateOf states i) (onRamp h e s i) (freeSpeed h e s i) (S .most-high) (row-passed _ _ _ z))
 
-  module _ (z : firstOf (rowNumber (headIn net) (entryIn net) (segmentIn net) rows) n ≡ 0) where
-    pub rows-sound : (i : ℕ) → i < n → RowOk (segmentIn net i) (entryIn net (segmentIn net i .curve) 0) (rowAt words speeds at from i)
-    rows-sound i l = row-sound i l (firstOf-zero _ n z i l)
+  module _ (z : firstOf (stateNumber (headIn net) (entryIn net) (segmentIn net) states) n ≡ 0) where
+    pub states-sound : (i : ℕ) → i < n → StateOk (segmentIn net i) (entryIn net (segmentIn net i .curve) 0) (stateAt words speeds at from i)
+    states-sound i l = state-sound i l (firstOf-zero _ n z i l)
 
     pub vehicles-each : (i : ℕ) → i < n → vehiclesAt words at i ≤ 2000000000000
-    vehicles-each i l = rw (vehicles-are words speeds at from n i l) (rw (row-read words speeds at from n i l) (omega (arith, rows-sound i l .count, rows-sound i l .queue)))
+    vehicles-each i l = rw (vehicles-are words speeds at from n i l) (rw (state-read words speeds at from n i l) (omega (arith, states-sound i l .count, states-sound i l .queue)))
 
     -- the totals' place holds the case's totals
-    pub totals-sound : row (totalsBad (sumOf (vehiclesIn rows) n) (getD words (at + 16 * n) 0) (getD words (at + 16 * n + 1) 0) (getD words (at + 16 * n + 2) 0) (getD words (at + 16 * n + 3) 0)) 12 0 ≡ 0
+    pub totals-sound : row (totalsBad (sumOf (vehiclesIn states) n) (getD words (at + 16 * n) 0) (getD words (at + 16 * n + 1) 0) (getD words (at + 16 * n + 2) 0) (getD words (at + 16 * n + 3) 0)) 12 0 ≡ 0
         → TotalsOk words (at + 16 * n)
     unfolding totalsBad
     totals-sound q =
@@ -167,8 +167,8 @@ module _ {words : List ℕ} {speeds : List Float} {at from n : ℕ} (at-place : 
         }
 
   -- ---- the case's number, by the code's two tests
-  abbrev inRows : ℕ
-  inRows = firstOf (rowNumber (headIn net) (entryIn net) (segmentIn net) rows) n
+  abbrev inStates : ℕ
+  inStates = firstOf (stateNumber (headIn net) (entryIn net) (segmentIn net) states) n
 
   abbrev inTotals : ℕ → ℕ
   inTotals held = row (totalsBad held (getD words (at + 16 * n) 0) (getD words (at + 16 * n + 1) 0) (getD words (at + 16 * n + 2) 0) (getD words (at + 16 * n + 3) 0)) 12 0
@@ -176,28 +176,28 @@ module _ {words : List ℕ} {speeds : List Float} {at from n : ℕ} (at-place : 
   abbrev number : ℕ
   number = caseNumber (headIn net) (entryIn net) (segmentIn net) (caseIn words speeds at from n)
 
-  number-is : number ≡ first inRows (inTotals (sumOf (vehiclesIn rows) n))
+  number-is : number ≡ first inStates (inTotals (sumOf (vehiclesIn states) n))
   unfolding caseNumber caseIn
   number-is =
-      λ j. first (firstOf (rowNumber (headIn net) (entryIn net) (segmentIn net) rows) (sym (at-place .size) j))
-      (row (totalsBad (sumOf (vehiclesIn rows) (sym (at-place .size) j)) (getD words (at + 16 * n) 0) (getD words (at + 16 * n + 1) 0) (getD words (at + 16 * n + 2) 0) (getD words (at + 16 * n + 3) 0)) 12 0)
+      λ j. first (firstOf (stateNumber (headIn net) (entryIn net) (segmentIn net) states) (sym (at-place .size) j))
+      (row (totalsBad (sumOf (vehiclesIn states) (sym (at-place .size) j)) (getD words (at + 16 * n) 0) (getD words (at + 16 * n + 1) 0) (getD words (at + 16 * n + 2) 0) (getD words (at + 16 * n + 3) 0)) 12 0)
 
-  pub case-rows : {r : ℕ} → r ≡ inRows → (r ≡ 0 → ⊥) → r ≡ number
-  case-rows e some = e ∙ sym (number-is ∙ first-some _ _ (λ z. some (e ∙ z)))
+  pub case-states : {r : ℕ} → r ≡ inStates → (r ≡ 0 → ⊥) → r ≡ number
+  case-states e some = e ∙ sym (number-is ∙ first-some _ _ (λ z. some (e ∙ z)))
 
-  pub case-totals : {r held : ℕ} → inRows ≡ 0 → held ≡ sumOf (vehiclesAt words at) n → r ≡ inTotals held → r ≡ number
+  pub case-totals : {r held : ℕ} → inStates ≡ 0 → held ≡ sumOf (vehiclesAt words at) n → r ≡ inTotals held → r ≡ number
   case-totals z is e = e ∙ ap inTotals (is ∙ vehicles-sum words speeds at from n) ∙ sym (number-is ∙ first-zero _ _ z)
 
-  -- what a sound case says of its rows and totals
+  -- what a sound case says of its states and totals
   module _ (z : number ≡ 0) where
-    rows-zero : inRows ≡ 0
-    rows-zero = first-zero-left _ _ (sym number-is ∙ z)
+    states-zero : inStates ≡ 0
+    states-zero = first-zero-left _ _ (sym number-is ∙ z)
 
-    pub case-row : (i : ℕ) → i < n → RowOk (segmentIn net i) (entryIn net (segmentIn net i .curve) 0) (rowAt words speeds at from i)
-    case-row = rows-sound rows-zero
+    pub case-state : (i : ℕ) → i < n → StateOk (segmentIn net i) (entryIn net (segmentIn net i .curve) 0) (stateAt words speeds at from i)
+    case-state = states-sound states-zero
 
     pub case-total : TotalsOk words (at + 16 * n)
-    case-total = totals-sound rows-zero (first-zero-right inRows _ (sym number-is ∙ z))
+    case-total = totals-sound states-zero (first-zero-right inStates _ (sym number-is ∙ z))
 
     -- and with arrivals that no row refuses, a step of it can be made
     module _ (steps : ℕ) (ds : List ℕ) (q : stepNumber (headIn net) (entryIn net) (segmentIn net) steps ds ≡ 0) where
@@ -218,8 +218,8 @@ module _ {words : List ℕ} {speeds : List Float} {at from n : ℕ} (at-place : 
             size = at-place .size;
             past = at-place .past;
             room = omega (arith, at-place .room);
-            lane = at-place .lane;
+            speed-room = at-place .speed-room;
             arrivals = many;
-            row = case-row;
+            state = case-state;
             arrival = arrival;
           }

@@ -1,4 +1,4 @@
--- What a sign and a setting put into a segment's row.
+-- What a sign and a setting put into a segment's state.
 use Prim.Native.Nat.{ℕ, zero, suc, _+_, _-_}
 use mathlib.Core.Bool.{Bool, _&&_, _||_, not}
 use mathlib.Core.List.{[], _∷_}
@@ -6,7 +6,7 @@ use lib.Dec.{ltb, eqb}
 use lib.IntN.{ℤ, pos, negsuc}
 use lib.ListN.{set}
 use Rattle.laws.specs.First.{anyOf, outside}
-use Rattle.metanet.specs.declared.Row.{Row}
+use Rattle.metanet.specs.declared.SegmentState.{SegmentState}
 use Rattle.metanet.specs.Case.{Case, openKind, fixedKind, alineaKind}
 use Rattle.metanet.specs.declared.Setting.{Setting}
 use Rattle.metanet.specs.declared.Setting.the-variants.{Open, Fixed, Alinea}
@@ -19,21 +19,21 @@ complianceBad (pos a) = ltb 500 a
 complianceBad (negsuc a) = ltb 499 a
 
 -- a compliance of −500..500 with 500 added
-abbrev pub raised : ℤ → ℕ
-raised (pos a) = 500 + a
-raised (negsuc a) = 499 - a
+abbrev pub complianceWord : ℤ → ℕ
+complianceWord (pos a) = 500 + a
+complianceWord (negsuc a) = 499 - a
 
 -- a dark sign keeps no compliance
 abbrev pub keptCompliance : ℕ → ℤ → ℕ
 keptCompliance zero compliance = 0
-keptCompliance (suc limit) compliance = raised compliance
+keptCompliance (suc limit) compliance = complianceWord compliance
 
 -- 18: limit neither 0 nor 20..200, or compliance outside −500..500
 abbrev pub signRefused : ℕ → ℤ → Bool
 signRefused limit compliance = (not (eqb limit 0) && outside 20 limit 200) || complianceBad compliance
 
-abbrev pub signedRow : ℕ → ℤ → Row → Row
-signedRow limit compliance r =
+abbrev pub signedState : ℕ → ℤ → SegmentState → SegmentState
+signedState limit compliance r =
     record {
       count = r .count;
       queue = r .queue;
@@ -91,8 +91,8 @@ intervalOf Open = 0
 intervalOf (Fixed rate) = 0
 intervalOf (Alinea target gain least interval) = interval
 
-abbrev pub meteredRow : ℕ → Setting → Row → Row
-meteredRow q setting r =
+abbrev pub meteredState : ℕ → Setting → SegmentState → SegmentState
+meteredState q setting r =
     record {
       count = r .count;
       queue = r .queue;
@@ -109,6 +109,6 @@ meteredRow q setting r =
       speed = r .speed;
     }
 
--- ---- the case c with the row r at segment i, counted from 0; all else stays
-abbrev pub withRow : Case → ℕ → Row → Case
-withRow c i r = record { rows = set (c .rows) i r; steps = c .steps; arrivals = c .arrivals; exits = c .exits; time = c .time }
+-- ---- the case c with the state r at segment i, counted from 0; all else stays
+abbrev pub withState : Case → ℕ → SegmentState → Case
+withState c i r = record { states = set (c .states) i r; steps = c .steps; arrivals = c .arrivals; exits = c .exits; time = c .time }

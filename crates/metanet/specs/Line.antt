@@ -5,10 +5,10 @@ use lib.IntN.{ℤ}
 use lib.ListN.{getD}
 use Rattle.laws.specs.Sums.{sumOf}
 use Rattle.format.specs.Network.{Network, entryOf, segmentOf}
-use Rattle.metanet.specs.Case.{Case, rowOf}
+use Rattle.metanet.specs.Case.{Case, stateOf}
 use Rattle.metanet.specs.Step.{stepCase, exitsNow}
 use Rattle.metanet.specs.declared.Setting.{Setting}
-use Rattle.metanet.specs.Change.{signedRow, meteredRow, withRow}
+use Rattle.metanet.specs.Change.{signedState, meteredState, withState}
 
 -- ---- a line is a list of signs, meters and steps with their arguments
 
@@ -22,8 +22,8 @@ Line = List Item
 
 -- a sign or meter sets its segment, a step is "One step"
 unfoldable pub change : Network → Case → Item → Case
-change w c (signed i limit compliance) = withRow c (i - 1) (signedRow limit compliance (rowOf (c .rows) (i - 1)))
-change w c (metered i setting) = withRow c (i - 1) (meteredRow (segmentOf w (i - 1) .most) setting (rowOf (c .rows) (i - 1)))
+change w c (signed i limit compliance) = withState c (i - 1) (signedState limit compliance (stateOf (c .states) (i - 1)))
+change w c (metered i setting) = withState c (i - 1) (meteredState (segmentOf w (i - 1) .most) setting (stateOf (c .states) (i - 1)))
 change w c (stepped arrivals) = stepCase w c arrivals
 
 -- the case of a line is the start case, changed by each item in order
@@ -58,7 +58,7 @@ arrivalsOf w (i ∷ l) = handedIn w i + arrivalsOf w l
 unfoldable pub letOut : Network → Case → Item → ℕ
 letOut w c (signed i limit compliance) = 0
 letOut w c (metered i setting) = 0
-letOut w c (stepped arrivals) = exitsNow (w .head) (entryOf w) (segmentOf w) (c .rows)
+letOut w c (stepped arrivals) = exitsNow (w .head) (entryOf w) (segmentOf w) (c .states)
 
 unfoldable pub exitsOf : Network → Case → Line → ℕ
 unfolding letOut change

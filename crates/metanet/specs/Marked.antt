@@ -9,9 +9,9 @@ use Rattle.laws.specs.Real.{real}
 use Rattle.laws.specs.Sums.{sumOf}
 use Rattle.format.specs.Network.{Network}
 use Rattle.format.specs.Marked.{oneSegment, SpeedLimitCase}
-use Rattle.metanet.specs.declared.Row.{Row}
+use Rattle.metanet.specs.declared.SegmentState.{SegmentState}
 use Rattle.metanet.specs.declared.Sign.the-variants.{Shown}
-use Rattle.metanet.specs.Case.{Case, rowOf}
+use Rattle.metanet.specs.Case.{Case, stateOf}
 use Rattle.metanet.specs.Flow.{jamBound, rateChange}
 use Rattle.metanet.specs.Speed.{curveSpeed}
 use Rattle.metanet.specs.Step.{signOf, stepCase}
@@ -24,7 +24,7 @@ tallies = oneSegment 10 100000
 unfoldable pub atStart : Case
 atStart =
     record {
-      rows =
+      states =
           record {
             count = 20000;
             queue = 5000;
@@ -54,17 +54,17 @@ afterTwo = stepCase tallies afterOne (0 ∷ [])
 
 -- steps, segments, queues, arrivals, exits, time
 unfoldable pub figures : Case → List ℕ
-figures c = c .steps ∷ sumOf (λ i. rowOf (c .rows) i .count) 1 ∷ sumOf (λ i. rowOf (c .rows) i .queue) 1 ∷ c .arrivals ∷ c .exits ∷ c .time ∷ []
+figures c = c .steps ∷ sumOf (λ i. stateOf (c .states) i .count) 1 ∷ sumOf (λ i. stateOf (c .states) i .queue) 1 ∷ c .arrivals ∷ c .exits ∷ c .time ∷ []
 
 abbrev pub speedOf : Case → Float
-speedOf c = rowOf (c .rows) 0 .speed
+speedOf c = stateOf (c .states) 0 .speed
 
 -- entries with e20 80,000 and e21 79,000
 unfoldable pub bent : ℕ → ℕ
 bent j = getD (replicate 21 80000 ++ replicate 180 79000) j 0
 
 -- a sign that shows limit 70 with compliance −100, kept as 400
-unfoldable pub seventy : Row
+unfoldable pub seventy : SegmentState
 seventy =
     record {
       count = 0;

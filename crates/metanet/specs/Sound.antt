@@ -11,10 +11,10 @@ use Rattle.laws.specs.Sums.{sumOf}
 use Rattle.format.specs.declared.Head.{Head}
 use Rattle.format.specs.declared.Segment.{Segment}
 use Rattle.format.specs.Words.{headIn, entryIn, segmentIn}
-use Rattle.metanet.specs.declared.Row.{Row}
-use Rattle.metanet.specs.Case.{Case, openKind, fixedKind, alineaKind, rowOf}
-use Rattle.metanet.specs.Step.{vehiclesIn, freeSpeed, merges}
-use Rattle.metanet.specs.Words.{netOf, rowsIn, caseIn}
+use Rattle.metanet.specs.declared.SegmentState.{SegmentState}
+use Rattle.metanet.specs.Case.{Case, openKind, fixedKind, alineaKind, stateOf}
+use Rattle.metanet.specs.Step.{vehiclesIn, freeSpeed, onRamp}
+use Rattle.metanet.specs.Words.{netOf, statesIn, caseIn}
 
 -- every mv figure and each case's mv in all ≤ 10¹², time ≤ 10¹⁸, steps ≤ 20,000
 abbrev pub mvMost : ℕ
@@ -29,25 +29,25 @@ stepsMost = 20000
 -- ---- signs, settings and rates as their calls permit
 
 -- a dark sign keeps no compliance; a shown one has a limit of 20..200 and a compliance of −500..500, kept with 500 added
-unfoldable pub signBad : Row → Bool
+unfoldable pub signBad : SegmentState → Bool
 signBad r = cond (eqb (r .limit) 0) (ltb 0 (r .compliance)) (outside 20 (r .limit) 200 || ltb 1000 (r .compliance))
 
 -- the figures of a setting that only ALINEA has
-unfoldable pub hasAlinea : Row → Bool
+unfoldable pub hasAlinea : SegmentState → Bool
 hasAlinea r = anyOf (ltb 0 (r .target) ∷ ltb 0 (r .gain) ∷ ltb 0 (r .least) ∷ ltb 0 (r .interval) ∷ [])
 
 -- open: R is Q, and the figures that only ALINEA has are 0
-unfoldable pub openBad : Segment → Row → Bool
+unfoldable pub openBad : Segment → SegmentState → Bool
 unfolding hasAlinea
 openBad s r = hasAlinea r || not (eqb (r .rate) (s .most))
 
 -- fixed at 0..Q, and the figures that only ALINEA has are 0
-unfoldable pub fixedBad : Segment → Row → Bool
+unfoldable pub fixedBad : Segment → SegmentState → Bool
 unfolding hasAlinea
 fixedBad s r = hasAlinea r || ltb (s .most) (r .rate)
 
 -- target 1..199, gain 1..60,000 mv, least 0..Q, z 1..60 steps, R in least..Q
-unfoldable pub alineaBad : Segment → Row → Bool
+unfoldable pub alineaBad : Segment → SegmentState → Bool
 alineaBad s r =
     anyOf
     (outside 1 (r .target) 199
@@ -58,7 +58,7 @@ alineaBad s r =
     ∷ [])
 
 -- only an origin past segment 1 is metered: m says whether segment i is one. Every code is one that the arrangement names
-unfoldable pub settingBad : Bool → Segment → Row → Bool
+unfoldable pub settingBad : Bool → Segment → SegmentState → Bool
 unfolding openBad fixedBad alineaBad
 settingBad m s r =
     cond (eqb (r .kind) openKind) (openBad s r)
@@ -70,9 +70,9 @@ unfoldable pub speedBad : ℕ → Float → Bool
 speedBad f v = not (le (real 1000) v && le v (real f))
 
 -- one segment's part of a case
-unfoldable pub rowBad : Bool → Segment → ℕ → Row → Bool
+unfoldable pub stateBad : Bool → Segment → ℕ → SegmentState → Bool
 unfolding signBad settingBad speedBad
-rowBad m s f r =
+stateBad m s f r =
     anyOf
     (ltb mvMost (r .count)
     ∷ ltb mvMost (r .queue)
@@ -83,11 +83,11 @@ rowBad m s f r =
     ∷ speedBad f (r .speed)
     ∷ [])
 
--- held is the mv in segments and queues
+-- vehicles: the mv in segments and queues
 unfoldable pub totalsBad : ℕ → ℕ → ℕ → ℕ → ℕ → Bool
-totalsBad held steps arrivals exits time =
+totalsBad vehicles steps arrivals exits time =
     anyOf
-    (ltb mvMost held
+    (ltb mvMost vehicles
     ∷ ltb mvMost arrivals
     ∷ ltb mvMost exits
     ∷ ltb timeMost time
@@ -97,16 +97,16 @@ totalsBad held steps arrivals exits time =
 -- ---- on a network with the head h, the entries entry k j and the segments segment i
 
 module _ (h : Head) (entry : ℕ → ℕ → ℕ) (segment : ℕ → Segment) where
-  -- 12, of row i of a case
-  unfoldable pub rowNumber : List Row → ℕ → ℕ
-  unfolding rowBad
-  rowNumber rows i = row (rowBad (merges h entry segment i) (segment i) (freeSpeed h entry segment i) (rowOf rows i)) 12 0
+  -- 12, of state i of a case
+  unfoldable pub stateNumber : List SegmentState → ℕ → ℕ
+  unfolding stateBad
+  stateNumber states i = row (stateBad (onRamp h entry segment i) (segment i) (freeSpeed h entry segment i) (stateOf states i)) 12 0
 
   -- 12 case not sound
   unfoldable pub caseNumber : Case → ℕ
-  unfolding rowNumber totalsBad
+  unfolding stateNumber totalsBad
   caseNumber c =
-      first (firstOf (rowNumber (c .rows)) (h .size)) (row (totalsBad (sumOf (vehiclesIn (c .rows)) (h .size)) (c .steps) (c .arrivals) (c .exits) (c .time)) 12 0)
+      first (firstOf (stateNumber (c .states)) (h .size)) (row (totalsBad (sumOf (vehiclesIn (c .states)) (h .size)) (c .steps) (c .arrivals) (c .exits) (c .time)) 12 0)
 
   -- 15 arrival > 1,000,000 or not 0 without origin
   unfoldable pub arrivalNumber : List ℕ → ℕ → ℕ
@@ -121,10 +121,10 @@ module _ (h : Head) (entry : ℕ → ℕ → ℕ) (segment : ℕ → Segment) wh
 
 -- ---- the same of a case and a network in the words; net is the network's words
 
-abbrev pub rowNumberIn : List ℕ → List Float → ℕ → ℕ → ℕ → ℕ → ℕ
-rowNumberIn words speeds at from n i =
+abbrev pub stateNumberIn : List ℕ → List Float → ℕ → ℕ → ℕ → ℕ → ℕ
+stateNumberIn words speeds at from n i =
     let net = netOf words in
-    rowNumber (headIn net) (entryIn net) (segmentIn net) (rowsIn words speeds at from n) i
+    stateNumber (headIn net) (entryIn net) (segmentIn net) (statesIn words speeds at from n) i
 
 abbrev pub caseNumberIn : List ℕ → List Float → ℕ → ℕ → ℕ → ℕ
 caseNumberIn words speeds at from n =

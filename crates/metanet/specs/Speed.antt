@@ -27,9 +27,9 @@ abbrev pub lesser : Float → Float → Float
 lesser x y = cond (lt x y) x y
 
 -- a sign is dark, or shows its speed, and V is the lesser of the two
-abbrev pub signed : Float → Sign → Float
-signed v Dark = v
-signed v (Shown s) = lesser s v
+abbrev pub underSign : Float → Sign → Float
+underSign v Dark = v
+underSign v (Shown s) = lesser s v
 
 -- ---- A = (T ÷ τ) × (V − v)
 abbrev pub relaxation : Head → Float → Float → Float
@@ -56,6 +56,6 @@ keep f x = cond (le (real 1000) x && le x (real f)) x (cond (lt (real f) x) (rea
 -- new v = (((v + A) + B) − D) − E, without "− E" where nothing merges, then kept
 unfoldable pub newSpeed : Head → Segment → ℕ → Old → Float → Bool → ℕ → Float
 unfolding keep
-newSpeed h s f o want merges release =
+newSpeed h s f o want onRamp release =
     let x = ((o .speed ⊕ relaxation h want (o .speed)) ⊕ convection h s o) ⊖ anticipation h s o in
-    keep f (cond merges (x ⊖ merging h s o release) x)
+    keep f (cond onRamp (x ⊖ merging h s o release) x)

@@ -10,14 +10,14 @@ use Rattle.laws.specs.Real.{real}
 use Rattle.laws.specs.Sums.{sumOf}
 use Rattle.format.specs.declared.Segment.{Segment}
 use Rattle.format.specs.Network.{Network, entryOf, segmentOf}
-use Rattle.metanet.specs.declared.Row.{Row}
+use Rattle.metanet.specs.declared.SegmentState.{SegmentState}
 use Rattle.metanet.specs.Case.{Case, openKind}
 use Rattle.metanet.specs.Speed.{area}
 
 -- ---- the case: all ramps open, signs dark, flows and totals 0; R of an open segment is its Q
 
-unfoldable pub startRow : Network → List ℕ → List ℕ → List ℕ → ℕ → Row
-startRow w mvs speeds queues i =
+unfoldable pub startState : Network → List ℕ → List ℕ → List ℕ → ℕ → SegmentState
+startState w mvs speeds queues i =
     record {
       count = getD mvs i 0;
       queue = getD queues i 0;
@@ -35,9 +35,9 @@ startRow w mvs speeds queues i =
     }
 
 unfoldable pub startCase : Network → List ℕ → List ℕ → List ℕ → Case
-unfolding startRow
+unfolding startState
 startCase w mvs speeds queues =
-    record { rows = table (startRow w mvs speeds queues) (w .head .size); steps = 0; arrivals = 0; exits = 0; time = 0 }
+    record { states = table (startState w mvs speeds queues) (w .head .size); steps = 0; arrivals = 0; exits = 0; time = 0 }
 
 -- mv handed to Start: in segments and in queues
 abbrev pub handed : Network → List ℕ → List ℕ → ℕ

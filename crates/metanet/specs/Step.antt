@@ -12,35 +12,35 @@ use Rattle.laws.specs.Real.{real, _⊘_}
 use Rattle.format.specs.declared.Head.{Head}
 use Rattle.format.specs.declared.Segment.{Segment}
 use Rattle.format.specs.Network.{Network, entryOf, segmentOf}
-use Rattle.metanet.specs.declared.Row.{Row}
-use Rattle.metanet.specs.declared.Around.{Around}
+use Rattle.metanet.specs.declared.SegmentState.{SegmentState}
+use Rattle.metanet.specs.declared.Neighbours.{Neighbours}
 use Rattle.metanet.specs.declared.Sign.{Sign}
 use Rattle.metanet.specs.declared.Sign.the-variants.{Dark, Shown}
-use Rattle.metanet.specs.Case.{Case, openKind, alineaKind, rowOf}
+use Rattle.metanet.specs.Case.{Case, openKind, alineaKind, stateOf}
 use Rattle.metanet.specs.Flow.{alineaRate, jamBound, releaseOf, outflowOf, exitPart}
-use Rattle.metanet.specs.Speed.{area, curveSpeed, signed, newSpeed}
+use Rattle.metanet.specs.Speed.{area, curveSpeed, underSign, newSpeed}
 
--- ---- one segment, from its own row
+-- ---- one segment, from its own state
 
 -- density ρ is N ÷ G
-unfoldable pub density : Segment → Row → Float
+unfoldable pub density : Segment → SegmentState → Float
 density s r = real (r .count) ⊘ real (area s)
 
 -- its speed, carried in binary64, is limit × (1000 + a); the compliance a is kept with 500 added
-unfoldable pub signOf : Row → Sign
+unfoldable pub signOf : SegmentState → Sign
 signOf r = cond (eqb (r .limit) 0) Dark (Shown (real (r .limit * (500 + r .compliance))))
 
--- the desired speed V on a curve with the entries e, under the row's sign
-unfoldable pub desiredSpeed : (ℕ → ℕ) → Segment → Row → Float
+-- the desired speed V on a curve with the entries e, under the state's sign
+unfoldable pub desiredSpeed : (ℕ → ℕ) → Segment → SegmentState → Float
 unfolding signOf
-desiredSpeed e s r = signed (curveSpeed e (r .count) (area s)) (signOf r)
+desiredSpeed e s r = underSign (curveSpeed e (r .count) (area s)) (signOf r)
 
 -- the rate R as reported: Q where open
-unfoldable pub rateOf : Segment → Row → ℕ
+unfoldable pub rateOf : Segment → SegmentState → ℕ
 rateOf s r = cond (eqb (r .kind) openKind) (s .most) (r .rate)
 
 -- 1. the rate that this step makes: ALINEA ramps whose interval divides t move theirs
-unfoldable pub rateNow : Segment → Row → ℕ → ℕ
+unfoldable pub rateNow : Segment → SegmentState → ℕ → ℕ
 unfolding rateOf
 rateNow s r t =
     cond (eqb (r .kind) alineaKind && eqb (t % r .interval) 0)
@@ -48,23 +48,23 @@ rateNow s r t =
     (rateOf s r)
 
 -- 2. release = least of w + d; R; the jam bound
-unfoldable pub releaseNow : Segment → Row → ℕ → ℕ → ℕ
+unfoldable pub releaseNow : Segment → SegmentState → ℕ → ℕ → ℕ
 unfolding rateNow
 releaseNow s r t d = releaseOf (r .queue + d) (rateNow s r t) (jamBound (s .most) (s .jam) (s .critical) (area s) (r .count))
 
 -- 3. the outflow; s is the whole part of v
-unfoldable pub outflowNow : Head → Segment → Row → ℕ
+unfoldable pub outflowNow : Head → Segment → SegmentState → ℕ
 outflowNow h s r = outflowOf (r .count) (toUnsigned 64 (r .speed)) (h .step) (s .metres)
 
 -- all the rest enters the next segment, or leaves after segment n
-unfoldable pub through : Head → Segment → Row → ℕ
+unfoldable pub through : Head → Segment → SegmentState → ℕ
 unfolding outflowNow
 through h s r = outflowNow h s r - exitPart (outflowNow h s r) (s .exit)
 
--- the new row, from what is around the segment
-unfoldable pub made : Head → Segment → ℕ → Row → ℕ → ℕ → Bool → Around → Row
+-- the new state, from what is around the segment
+unfoldable pub newState : Head → Segment → ℕ → SegmentState → ℕ → ℕ → Bool → Neighbours → SegmentState
 unfolding density rateNow releaseNow outflowNow
-made h s f r t d merges o =
+newState h s f r t d onRamp o =
     record {
       -- 4. N + release + what the segment before passes on − outflow
       count = r .count + releaseNow s r t d + o .passed - outflowNow h s r;
@@ -83,19 +83,19 @@ made h s f r t d merges o =
       speed =
           newSpeed h s f
           (record { count = r .count; queue = r .queue; speed = r .speed; density = density s r; before = o .before; after = o .after })
-          (o .want) merges (releaseNow s r t d);
+          (o .want) onRamp (releaseNow s r t d);
     }
 
--- ---- all segments, from their rows
+-- ---- all segments, from their states
 
 -- u is v of the segment before, v itself at segment 1
-unfoldable pub upstream : List Row → ℕ → Float
-upstream rows zero = rowOf rows 0 .speed
-upstream rows (suc i) = rowOf rows i .speed
+unfoldable pub upstream : List SegmentState → ℕ → Float
+upstream states zero = stateOf states 0 .speed
+upstream states (suc i) = stateOf states i .speed
 
 -- mv in a segment and its queue
-abbrev pub vehiclesIn : List Row → ℕ → ℕ
-vehiclesIn rows i = rowOf rows i .count + rowOf rows i .queue
+abbrev pub vehiclesIn : List SegmentState → ℕ → ℕ
+vehiclesIn states i = stateOf states i .count + stateOf states i .queue
 
 -- ---- all segments, on a network with the head h, the entries entry k j and the segments segment i
 
@@ -105,61 +105,61 @@ module _ (h : Head) (entry : ℕ → ℕ → ℕ) (segment : ℕ → Segment) wh
   freeSpeed i = entry (segment i .curve) 0
 
   -- what the segment before passes on; past the last segment, what leaves there
-  unfoldable pub inflow : List Row → ℕ → ℕ
+  unfoldable pub inflow : List SegmentState → ℕ → ℕ
   unfolding through
-  inflow rows zero = 0
-  inflow rows (suc i) = through h (segment i) (rowOf rows i)
+  inflow states zero = 0
+  inflow states (suc i) = through h (segment i) (stateOf states i)
 
   -- ρ' is the density of the next segment; at segment n it is ρ if N < C × G, else C
-  unfoldable pub downstream : List Row → ℕ → Float
+  unfoldable pub downstream : List SegmentState → ℕ → Float
   unfolding density
-  downstream rows i =
+  downstream states i =
       cond (ltb (i + 1) (h .size))
-      (density (segment (i + 1)) (rowOf rows (i + 1)))
-      (cond (ltb (rowOf rows i .count) (segment i .critical * area (segment i))) (density (segment i) (rowOf rows i)) (real (segment i .critical)))
+      (density (segment (i + 1)) (stateOf states (i + 1)))
+      (cond (ltb (stateOf states i .count) (segment i .critical * area (segment i))) (density (segment i) (stateOf states i)) (real (segment i .critical)))
 
   -- E only at an origin past segment 1
-  abbrev pub merges : ℕ → Bool
-  merges i = eqb (segment i .origin) 1 && ltb 0 i
+  abbrev pub onRamp : ℕ → Bool
+  onRamp i = eqb (segment i .origin) 1 && ltb 0 i
 
-  abbrev pub around : List Row → ℕ → Around
-  around rows i =
+  abbrev pub neighbours : List SegmentState → ℕ → Neighbours
+  neighbours states i =
       record {
-        passed = inflow rows i;
-        before = upstream rows i;
-        after = downstream rows i;
-        want = desiredSpeed (entry (segment i .curve)) (segment i) (rowOf rows i);
+        passed = inflow states i;
+        before = upstream states i;
+        after = downstream states i;
+        want = desiredSpeed (entry (segment i .curve)) (segment i) (stateOf states i);
       }
 
   -- t is the number of steps on the line so far, ds are the arrivals
-  unfoldable pub stepRow : List Row → ℕ → List ℕ → ℕ → Row
-  unfolding made inflow upstream downstream desiredSpeed
-  stepRow rows t ds i = made h (segment i) (freeSpeed i) (rowOf rows i) t (getD ds i 0) (merges i) (around rows i)
+  unfoldable pub stepState : List SegmentState → ℕ → List ℕ → ℕ → SegmentState
+  unfolding newState inflow upstream downstream desiredSpeed
+  stepState states t ds i = newState h (segment i) (freeSpeed i) (stateOf states i) t (getD ds i 0) (onRamp i) (neighbours states i)
 
-  -- the rows after the step
-  unfoldable pub stepRows : List Row → ℕ → List ℕ → List Row
-  unfolding stepRow table
-  stepRows rows t ds = table (stepRow rows t ds) (h .size)
+  -- the states after the step
+  unfoldable pub stepStates : List SegmentState → ℕ → List ℕ → List SegmentState
+  unfolding stepState table
+  stepStates states t ds = table (stepState states t ds) (h .size)
 
   -- ---- totals
   -- the exit part of segment i
-  abbrev pub exitNow : List Row → ℕ → ℕ
-  exitNow rows i = exitPart (outflowNow h (segment i) (rowOf rows i)) (segment i .exit)
+  abbrev pub exitNow : List SegmentState → ℕ → ℕ
+  exitNow states i = exitPart (outflowNow h (segment i) (stateOf states i)) (segment i .exit)
 
   -- all exit parts, and what leaves after segment n
-  abbrev pub exitsNow : List Row → ℕ
-  exitsNow rows = sumOf (exitNow rows) (h .size) + inflow rows (h .size)
+  abbrev pub exitsNow : List SegmentState → ℕ
+  exitsNow states = sumOf (exitNow states) (h .size) + inflow states (h .size)
 
   -- 6. time spent grows by T × (mv in segments + queues before the step); arrivals and exits add up
   unfoldable pub stepOn : Case → List ℕ → Case
-  unfolding stepRows sumOf inflow outflowNow
+  unfolding stepStates sumOf inflow outflowNow
   stepOn c ds =
       record {
-        rows = stepRows (c .rows) (c .steps) ds;
+        states = stepStates (c .states) (c .steps) ds;
         steps = c .steps + 1;
         arrivals = c .arrivals + sumOf (λ i. getD ds i 0) (h .size);
-        exits = c .exits + exitsNow (c .rows);
-        time = c .time + h .step * sumOf (vehiclesIn (c .rows)) (h .size);
+        exits = c .exits + exitsNow (c .states);
+        time = c .time + h .step * sumOf (vehiclesIn (c .states)) (h .size);
       }
 
 -- one step of a case on a network
@@ -168,4 +168,4 @@ stepCase w = stepOn (w .head) (entryOf w) (segmentOf w)
 
 -- mv in segments and queues
 abbrev pub totalOf : Network → Case → ℕ
-totalOf w c = sumOf (vehiclesIn (c .rows)) (w .head .size)
+totalOf w c = sumOf (vehiclesIn (c .states)) (w .head .size)

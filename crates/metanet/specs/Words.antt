@@ -1,5 +1,5 @@
 -- How a case stands in the lent words and speeds (docs/ARRANGEMENT.md), and what a step makes of them.
--- A case's rows of 16 words start at place at, its 8 words of totals follow; its speeds start at place from.
+-- A case's states of 16 words start at place at, its 8 words of totals follow; its speeds start at place from.
 use Prim.Native.Nat.{ℕ, _+_, _*_}
 use mathlib.Core.List.{List, [], _∷_, _++_}
 use lib.ListN.{getD, take, drop, set}
@@ -7,9 +7,9 @@ use lib.Ieee.{Float, nan}
 use Rattle.laws.specs.Lists.{table, part, parts, puts}
 use Rattle.laws.specs.Sums.{sumOf}
 use Rattle.format.specs.Words.{headIn, entryIn, segmentIn}
-use Rattle.metanet.specs.declared.Row.{Row}
-use Rattle.metanet.specs.Case.{Case, rowOf}
-use Rattle.metanet.specs.Step.{vehiclesIn, stepRow, exitsNow}
+use Rattle.metanet.specs.declared.SegmentState.{SegmentState}
+use Rattle.metanet.specs.Case.{Case, stateOf}
+use Rattle.metanet.specs.Step.{vehiclesIn, stepState, exitsNow}
 
 -- the words of the network
 abbrev pub netOf : List ℕ → List ℕ
@@ -17,9 +17,9 @@ netOf words = take 2560 words
 
 -- ---- what is read
 
--- a row, at the start of the words w: N, w, limit, compliance + 500, kind, R, target, gain, least, z, last outflow, last release; 4 are free
-unfoldable pub rowIn : List ℕ → Float → Row
-rowIn w v =
+-- a state, at the start of the words w: N, w, limit, compliance + 500, kind, R, target, gain, least, z, last outflow, last release; 4 are free
+unfoldable pub stateIn : List ℕ → Float → SegmentState
+stateIn w v =
     record {
       count = getD w 0 0;
       queue = getD w 1 0;
@@ -36,19 +36,19 @@ rowIn w v =
       speed = v;
     }
 
-abbrev pub rowAt : List ℕ → List Float → ℕ → ℕ → ℕ → Row
-rowAt words speeds at from i = rowIn (drop (at + 16 * i) words) (getD speeds (from + i) nan)
+abbrev pub stateAt : List ℕ → List Float → ℕ → ℕ → ℕ → SegmentState
+stateAt words speeds at from i = stateIn (drop (at + 16 * i) words) (getD speeds (from + i) nan)
 
-unfoldable pub rowsIn : List ℕ → List Float → ℕ → ℕ → ℕ → List Row
-unfolding rowIn table
-rowsIn words speeds at from n = table (rowAt words speeds at from) n
+unfoldable pub statesIn : List ℕ → List Float → ℕ → ℕ → ℕ → List SegmentState
+unfolding stateIn table
+statesIn words speeds at from n = table (stateAt words speeds at from) n
 
 -- the totals: steps, arrivals, exits, time; 4 are free
 unfoldable pub caseIn : List ℕ → List Float → ℕ → ℕ → ℕ → Case
-unfolding rowsIn
+unfolding statesIn
 caseIn words speeds at from n =
     record {
-      rows = rowsIn words speeds at from n;
+      states = statesIn words speeds at from n;
       steps = getD words (at + 16 * n) 0;
       arrivals = getD words (at + 16 * n + 1) 0;
       exits = getD words (at + 16 * n + 2) 0;
@@ -57,35 +57,35 @@ caseIn words speeds at from n =
 
 -- ---- the words and speeds of a case of n segments; the free words are 0
 
-unfoldable pub codedRow : Row → List ℕ
-codedRow r =
+unfoldable pub stateWords : SegmentState → List ℕ
+stateWords r =
     r .count ∷ r .queue ∷ r .limit ∷ r .compliance ∷ r .kind ∷ r .rate ∷ r .target ∷ r .gain ∷ r .least ∷ r .interval
     ∷ r .outflow ∷ r .release ∷ 0 ∷ 0 ∷ 0 ∷ 0 ∷ []
 
-unfoldable pub codedWords : ℕ → Case → List ℕ
-unfolding codedRow parts
-codedWords n c =
-    parts (λ i. codedRow (rowOf (c .rows) i)) n ++ (c .steps ∷ c .arrivals ∷ c .exits ∷ c .time ∷ 0 ∷ 0 ∷ 0 ∷ 0 ∷ [])
+unfoldable pub caseWords : ℕ → Case → List ℕ
+unfolding stateWords parts
+caseWords n c =
+    parts (λ i. stateWords (stateOf (c .states) i)) n ++ (c .steps ∷ c .arrivals ∷ c .exits ∷ c .time ∷ 0 ∷ 0 ∷ 0 ∷ 0 ∷ [])
 
-unfoldable pub codedSpeeds : ℕ → Case → List Float
+unfoldable pub caseSpeeds : ℕ → Case → List Float
 unfolding table
-codedSpeeds n c = table (λ i. rowOf (c .rows) i .speed) n
+caseSpeeds n c = table (λ i. stateOf (c .states) i .speed) n
 
--- ---- what a step writes: of a row the figures that a step makes, and its speed
+-- ---- what a step writes: of a state the figures that a step makes, and its speed
 
-unfoldable pub rowWords : List ℕ → Row → List ℕ
-rowWords w r = set (set (set (set (set w 0 (r .count)) 1 (r .queue)) 5 (r .rate)) 10 (r .outflow)) 11 (r .release)
+unfoldable pub steppedWords : List ℕ → SegmentState → List ℕ
+steppedWords w r = set (set (set (set (set w 0 (r .count)) 1 (r .queue)) 5 (r .rate)) 10 (r .outflow)) 11 (r .release)
 
-abbrev pub newRow : List ℕ → List Float → ℕ → ℕ → ℕ → ℕ → List ℕ → ℕ → Row
-newRow words speeds at from n t ds i =
+abbrev pub stepStateIn : List ℕ → List Float → ℕ → ℕ → ℕ → ℕ → List ℕ → ℕ → SegmentState
+stepStateIn words speeds at from n t ds i =
     let net = netOf words in
-    stepRow (headIn net) (entryIn net) (segmentIn net) (rowsIn words speeds at from n) t ds i
+    stepState (headIn net) (entryIn net) (segmentIn net) (statesIn words speeds at from n) t ds i
 
 abbrev pub newWords : List ℕ → List Float → ℕ → ℕ → ℕ → ℕ → List ℕ → ℕ → List ℕ
-newWords words speeds at from n t ds i = rowWords (part (at + 16 * i) 16 words) (newRow words speeds at from n t ds i)
+newWords words speeds at from n t ds i = steppedWords (part (at + 16 * i) 16 words) (stepStateIn words speeds at from n t ds i)
 
 abbrev pub newSpeeds : List ℕ → List Float → ℕ → ℕ → ℕ → ℕ → List ℕ → ℕ → List Float
-newSpeeds words speeds at from n t ds i = newRow words speeds at from n t ds i .speed ∷ []
+newSpeeds words speeds at from n t ds i = stepStateIn words speeds at from n t ds i .speed ∷ []
 
 abbrev pub stepWords : List ℕ → List Float → ℕ → ℕ → ℕ → ℕ → List ℕ → List ℕ
 stepWords words speeds at from n t ds = puts 16 (newWords words speeds at from n t ds) at n words
@@ -105,16 +105,16 @@ putTotals words e ys = take e words ++ (ys ++ drop 8 (drop e words))
 
 -- what leaves in the step
 abbrev pub leaving : List ℕ → List Float → ℕ → ℕ → ℕ → ℕ
-leaving words speeds at from n = let net = netOf words in exitsNow (headIn net) (entryIn net) (segmentIn net) (rowsIn words speeds at from n)
+leaving words speeds at from n = let net = netOf words in exitsNow (headIn net) (entryIn net) (segmentIn net) (statesIn words speeds at from n)
 
--- the words after a step of the case: its rows' figures and its totals are new, all else stays
+-- the words after a step of the case: its states' figures and its totals are new, all else stays
 abbrev pub stepCaseWords : List ℕ → List Float → ℕ → ℕ → ℕ → List ℕ → List ℕ
 stepCaseWords words speeds at from n ds =
     putTotals (stepWords words speeds at from n (getD words (at + 16 * n) 0) ds) (at + 16 * n)
     (totalsWords (part (at + 16 * n) 8 words)
     (sumOf (λ i. getD ds i 0) n)
     (leaving words speeds at from n)
-    (getD words 0 0 * sumOf (vehiclesIn (rowsIn words speeds at from n)) n))
+    (getD words 0 0 * sumOf (vehiclesIn (statesIn words speeds at from n)) n))
 
 -- the speeds after it: the case's own are new, all else stays
 abbrev pub stepCaseSpeeds : List ℕ → List Float → ℕ → ℕ → ℕ → List ℕ → List Float

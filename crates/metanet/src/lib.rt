@@ -2,7 +2,7 @@
 // A segment's part of a case: N and queue w in mv; the sign's limit in km/h, 0 where it is dark, and compliance in thousandths with
 // 500 added, 0 where it is dark; the setting's kind (0 open, 1 fixed, 2 ALINEA), rate R in mv a step, target in veh/km/lane, gain
 // and least in mv, interval z in steps; last outflow, exit part included, and last release in mv; speed v in m/h.
-pub struct Row {
+pub struct SegmentState {
     pub count: u64,
     pub queue: u64,
     pub limit: u64,
@@ -18,9 +18,9 @@ pub struct Row {
     pub speed: f64,
 }
 
-// What a step of one segment goes by beside its row: what the segment before passes on and its speed u, the density ρ' of the next
+// What a step of one segment goes by beside its state: what the segment before passes on and its speed u, the density ρ' of the next
 // one, and the desired speed V.
-pub struct Around {
+pub struct Neighbours {
     pub passed: u64,
     pub before: f64,
     pub after: f64,

@@ -2,7 +2,7 @@
 mod flow; // flow.rt: rates, releases and flows, whole numbers
 mod speed; // speed.rt: the new speed, binary64
 mod segment; // segment.rt: one segment
-mod rows; // rows.rt: all segments of a case, in place
+mod states; // states.rt: all segments of a case, in place
 mod totals; // totals.rt: steps, arrivals, exits, time
 mod sound; // sound.rt: whether a case is sound
 mod arrivals; // arrivals.rt: the rows that judge a step
@@ -14,7 +14,7 @@ ghost use Rattle.metanet.specs.Words.{stepCaseWords, stepCaseSpeeds};
 ghost use Rattle.metanet.proofs.Ready.{CaseAt, Ready, TotalsOk};
 ghost use Rattle.metanet.specs.Sound.{caseNumberIn, stepNumberIn};
 
-// One step of the case whose rows start at word at and whose speeds start at from; n is the network's number of segments. The caller
+// One step of the case whose states start at word at and whose speeds start at from; n is the network's number of segments. The caller
 // has judged the network, the case and the arrivals.
 pub fn step(
     words: &mut [u64],
@@ -34,12 +34,12 @@ pub fn step(
     let t = words[e];
     let duration = words[0];
     let came = totals::sum_arrivals(arrivals, n);
-    let held = totals::vehicles_in(words, at, n);
-    let left = rows::step_rows(words, speeds, arrivals, at, from, n, t);
-    totals::add_totals(&mut words[e..f], came, left, duration * held);
+    let vehicles = totals::vehicles_in(words, at, n);
+    let left = states::step_states(words, speeds, arrivals, at, from, n, t);
+    totals::add_totals(&mut words[e..f], came, left, duration * vehicles);
 }
 
-// 12 where the case whose rows start at word at and whose speeds start at from is not sound, or 0. The caller has judged the network and
+// 12 where the case whose states start at word at and whose speeds start at from is not sound, or 0. The caller has judged the network and
 // the arrays' lengths.
 pub fn case_number(words: &[u64], speeds: &[f64], at: usize, from: usize, n: usize) -> u64
     requires { ⌜ CaseAt (now words) (now speeds) at from n ⌝ }

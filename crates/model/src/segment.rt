@@ -1,12 +1,12 @@
 // One segment of a step.
-use metanet::Around;
-use metanet::Old;
-use metanet::Row;
-use metanet::Sign;
 use crate::flow;
 use crate::speed;
 use format::Head;
 use format::Segment;
+use metanet::Neighbours;
+use metanet::Old;
+use metanet::SegmentState;
+use metanet::Sign;
 ghost use mathlib.Core.Path.{_≡_};
 ghost use mathlib.Core.Bool.{_&&_};
 ghost use Prim.Native.Nat.{_+_, _-_, _*_, _<_, _≤_};
@@ -17,11 +17,11 @@ ghost use Rattle.format.proofs.Accepted.{HeadWithin, CurveWithin};
 ghost use Rattle.format.specs.Words.{entryIn, segmentIn};
 ghost use Rattle.metanet.specs.Flow.{exitPart};
 ghost use Rattle.metanet.specs.Speed.{area};
-ghost use Rattle.metanet.specs.Step.{signOf, desiredSpeed, rateNow, outflowNow, made};
-ghost use Rattle.metanet.specs.Words.{netOf, rowIn};
-ghost use Rattle.metanet.proofs.Ready.{AreaOk, SegmentOk, RowOk, FreshOk, afterIn, freshIn};
+ghost use Rattle.metanet.specs.Step.{signOf, desiredSpeed, rateNow, outflowNow, newState};
+ghost use Rattle.metanet.specs.Words.{netOf, stateIn};
+ghost use Rattle.metanet.proofs.Ready.{AreaOk, SegmentOk, StateOk, NewStateOk, afterIn, newStateIn};
 
-fn sign_of(r: Row) -> Sign
+fn sign_of(r: SegmentState) -> Sign
     requires { ⌜ (r .limit ≤ 200) × (r .compliance ≤ 1000) ⌝ }
     ensures { λ x. ⌜ x ≡ signOf r ⌝ }
 {
@@ -46,9 +46,9 @@ fn density_of(g: u64, count: u64) -> f64
     speed::whole(count) / speed::whole(g)
 }
 
-fn rate_of(s: Segment, r: Row, f: u64, g: u64, t: u64) -> u64
+fn rate_of(s: Segment, r: SegmentState, f: u64, g: u64, t: u64) -> u64
     requires { ⌜ (g ≡ area s) × (0 < g) × (g ≤ 16000) × (s .most ≤ 300000) ⌝ }
-    requires { ⌜ RowOk s f r ⌝ }
+    requires { ⌜ StateOk s f r ⌝ }
     ensures { λ x. ⌜ x ≡ rateNow s r t ⌝ }
 {
     if r.kind == 2 {
@@ -63,10 +63,10 @@ fn rate_of(s: Segment, r: Row, f: u64, g: u64, t: u64) -> u64
     r.rate
 }
 
-fn outflow_of(h: Head, s: Segment, f: u64, r: Row) -> u64
+fn outflow_of(h: Head, s: Segment, f: u64, r: SegmentState) -> u64
     requires { ⌜ HeadWithin h ⌝ }
     requires { ⌜ SegmentOk h s f ⌝ }
-    requires { ⌜ RowOk s f r ⌝ }
+    requires { ⌜ StateOk s f r ⌝ }
     ensures { λ x. ⌜ (x ≡ outflowNow h s r) × (x ≤ r .count) ⌝ }
 {
     flow::outflow(
@@ -77,13 +77,22 @@ fn outflow_of(h: Head, s: Segment, f: u64, r: Row) -> u64
     )
 }
 
-// The new row of a segment, from its old one and what is around it.
-fn make(h: Head, s: Segment, f: u64, r: Row, t: u64, d: u64, merges: bool, o: Around) -> Row
+// The new state of a segment, from its old one and what is around it.
+fn new_state(
+    h: Head,
+    s: Segment,
+    f: u64,
+    r: SegmentState,
+    t: u64,
+    d: u64,
+    ramp: bool,
+    o: Neighbours,
+) -> SegmentState
     requires { ⌜ HeadWithin h ⌝ }
     requires { ⌜ SegmentOk h s f ⌝ }
-    requires { ⌜ RowOk s f r ⌝ }
+    requires { ⌜ StateOk s f r ⌝ }
     requires { ⌜ (d ≤ 1000000) × (o .passed ≤ 1000000000000) ⌝ }
-    ensures { λ x. ⌜ x ≡ made h s f r t d merges o ⌝ }
+    ensures { λ x. ⌜ x ≡ newState h s f r t d ramp o ⌝ }
 {
     let g = area_of(s);
     let rate = rate_of(s, r, f, g, t);
@@ -99,8 +108,8 @@ fn make(h: Head, s: Segment, f: u64, r: Row, t: u64, d: u64, merges: bool, o: Ar
         before: o.before,
         after: o.after,
     };
-    let v = speed::new_speed(h, s, f, old, o.want, merges, release);
-    Row {
+    let v = speed::new_speed(h, s, f, old, o.want, ramp, release);
+    SegmentState {
         count: r.count + release + o.passed - out,
         queue: waiting - release,
         limit: r.limit,
@@ -117,7 +126,7 @@ fn make(h: Head, s: Segment, f: u64, r: Row, t: u64, d: u64, merges: bool, o: Ar
     }
 }
 
-// ρ': the density of the next segment, whose row starts 16 words on, or the boundary's after the last.
+// ρ': the density of the next segment, whose state starts 16 words on, or the boundary's after the last.
 fn after_of(net: &[u64], rest: &[u64], i: usize, n: usize, s: Segment, count: u64, g: u64) -> f64
     requires { ⌜ (n ≤ 40) × (i < n) × (16 * (n - i) ≤ length (now rest)) ⌝ }
     requires { ⌜ (g ≡ area s) × (g ≤ 16000) × (s .critical ≤ 200) × (count ≤ 1000000000000) ⌝ }
@@ -137,10 +146,10 @@ fn after_of(net: &[u64], rest: &[u64], i: usize, n: usize, s: Segment, count: u6
 }
 
 // The desired speed V, m/h.
-fn want_of(net: &[u64], s: Segment, f: u64, r: Row, g: u64) -> f64
+fn want_of(net: &[u64], s: Segment, f: u64, r: SegmentState, g: u64) -> f64
     requires { ⌜ (g ≡ area s) × (0 < g) × (g ≤ 16000) × (s .curve < 8) ⌝ }
     requires { ⌜ CurveWithin (entryIn (now net) (s .curve)) ⌝ }
-    requires { ⌜ RowOk s f r ⌝ }
+    requires { ⌜ StateOk s f r ⌝ }
     ensures { λ x. ⌜ x ≡ desiredSpeed (entryIn (now (net .entry)) (s .curve)) s r ⌝ }
 {
     let v = speed::curve_speed(net, s.curve, r.count, g);
@@ -148,7 +157,7 @@ fn want_of(net: &[u64], s: Segment, f: u64, r: Row, g: u64) -> f64
 }
 
 // Whether segment i, counted from 0, is an origin past segment 1: a release merges there, and it may be metered.
-pub(crate) fn merges_at(origin: u64, i: usize) -> bool
+pub(crate) fn is_on_ramp(origin: u64, i: usize) -> bool
     ensures { λ r. ⌜ r ≡ (eqb origin 1 && ltb 0 i) ⌝ }
 {
     if origin == 1 {
@@ -157,12 +166,12 @@ pub(crate) fn merges_at(origin: u64, i: usize) -> bool
     false
 }
 
-// The row at the start of these words.
-pub(crate) fn row_of(w: &[u64], v: f64) -> Row
+// The state at the start of these words.
+pub(crate) fn state_of(w: &[u64], v: f64) -> SegmentState
     requires { ⌜ 16 ≤ length (now w) ⌝ }
-    ensures { λ r. ⌜ r ≡ rowIn (now (w .entry)) v ⌝ }
+    ensures { λ r. ⌜ r ≡ stateIn (now (w .entry)) v ⌝ }
 {
-    Row {
+    SegmentState {
         count: w[0],
         queue: w[1],
         limit: w[2],
@@ -179,9 +188,9 @@ pub(crate) fn row_of(w: &[u64], v: f64) -> Row
     }
 }
 
-// The new row of segment i, whose old row starts at word a: v is its speed, d its arrivals, passed and before what the segment before
+// The new state of segment i, whose old state starts at word a: v is its speed, d its arrivals, passed and before what the segment before
 // it passes on and its speed.
-pub(crate) fn fresh(
+pub(crate) fn new_state_in(
     words: &[u64],
     a: usize,
     v: f64,
@@ -191,27 +200,27 @@ pub(crate) fn fresh(
     t: u64,
     passed: u64,
     before: f64,
-) -> Row
-    requires { ⌜ FreshOk (now words) a v d i n passed ⌝ }
-    ensures { λ r. ⌜ r ≡ freshIn (netOf (now (words .entry))) (drop a (now (words .entry))) v d i n t passed before ⌝ }
+) -> SegmentState
+    requires { ⌜ NewStateOk (now words) a v d i n passed ⌝ }
+    ensures { λ r. ⌜ r ≡ newStateIn (netOf (now (words .entry))) (drop a (now (words .entry))) v d i n t passed before ⌝ }
 {
     let net = &words[..network::NETWORK_WORDS];
     let rest = &words[a..];
     let h = network::kept_head(net);
     let s = network::kept_segment(net, i as u32);
     let f = network::kept_entry(net, s.curve as u32, 0);
-    let r = row_of(rest, v);
+    let r = state_of(rest, v);
     let g = area_of(s);
     let after = after_of(net, rest, i, n, s, r.count, g);
     let want = want_of(net, s, f, r, g);
-    let merges = merges_at(s.origin, i);
-    let o = Around {
+    let ramp = is_on_ramp(s.origin, i);
+    let o = Neighbours {
         passed,
         before,
         after,
         want,
     };
-    make(h, s, f, r, t, d, merges, o)
+    new_state(h, s, f, r, t, d, ramp, o)
 }
 
 // What segment i passes on of an outflow.

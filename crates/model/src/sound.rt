@@ -1,16 +1,16 @@
 // Whether a case is sound.
-use metanet::Row;
 use crate::segment;
 use crate::speed;
 use crate::totals;
 use format::Segment;
+use metanet::SegmentState;
 ghost use mathlib.Core.Path.{_≡_};
 ghost use Prim.Native.Nat.{_<_, _≤_};
 ghost use Rattle.laws.specs.First.{firstOf};
 ghost use Rattle.metanet.proofs.Ready.{CaseAt};
-ghost use Rattle.metanet.specs.Sound.{signBad, hasAlinea, openBad, fixedBad, alineaBad, settingBad, speedBad, rowBad, totalsBad, rowNumberIn, caseNumberIn};
+ghost use Rattle.metanet.specs.Sound.{signBad, hasAlinea, openBad, fixedBad, alineaBad, settingBad, speedBad, stateBad, totalsBad, stateNumberIn, caseNumberIn};
 
-fn sign_bad(r: Row) -> bool
+fn sign_bad(r: SegmentState) -> bool
     ensures { λ x. ⌜ x ≡ signBad r ⌝ }
 {
     if r.limit == 0 {
@@ -20,25 +20,25 @@ fn sign_bad(r: Row) -> bool
 }
 
 // Whether any figure that only ALINEA has is there.
-fn has_alinea(r: Row) -> bool
+fn has_alinea(r: SegmentState) -> bool
     ensures { λ x. ⌜ x ≡ hasAlinea r ⌝ }
 {
     (0 < r.target) | (0 < r.gain) | (0 < r.least) | (0 < r.interval)
 }
 
-fn open_bad(s: Segment, r: Row) -> bool
+fn open_bad(s: Segment, r: SegmentState) -> bool
     ensures { λ x. ⌜ x ≡ openBad s r ⌝ }
 {
     has_alinea(r) | (r.rate != s.most)
 }
 
-fn fixed_bad(s: Segment, r: Row) -> bool
+fn fixed_bad(s: Segment, r: SegmentState) -> bool
     ensures { λ x. ⌜ x ≡ fixedBad s r ⌝ }
 {
     has_alinea(r) | (s.most < r.rate)
 }
 
-fn alinea_bad(s: Segment, r: Row) -> bool
+fn alinea_bad(s: Segment, r: SegmentState) -> bool
     ensures { λ x. ⌜ x ≡ alineaBad s r ⌝ }
 {
     arrays::outside(1, r.target, 199)
@@ -49,7 +49,7 @@ fn alinea_bad(s: Segment, r: Row) -> bool
 }
 
 // m says whether the segment may be metered.
-fn setting_bad(m: bool, s: Segment, r: Row) -> bool
+fn setting_bad(m: bool, s: Segment, r: SegmentState) -> bool
     ensures { λ x. ⌜ x ≡ settingBad m s r ⌝ }
 {
     if r.kind == 0 {
@@ -73,9 +73,9 @@ fn speed_bad(f: u64, v: f64) -> bool
 }
 
 // One segment's part of a case.
-fn row_bad(m: bool, s: Segment, f: u64, r: Row) -> bool
+fn state_bad(m: bool, s: Segment, f: u64, r: SegmentState) -> bool
     requires { ⌜ f ≤ 200000 ⌝ }
-    ensures { λ x. ⌜ x ≡ rowBad m s f r ⌝ }
+    ensures { λ x. ⌜ x ≡ stateBad m s f r ⌝ }
 {
     (1000000000000 < r.count)
         | (1000000000000 < r.queue)
@@ -86,32 +86,32 @@ fn row_bad(m: bool, s: Segment, f: u64, r: Row) -> bool
         | speed_bad(f, r.speed)
 }
 
-// 12, of row i of the case.
-fn row_number(words: &[u64], speeds: &[f64], at: usize, from: usize, n: usize, i: usize) -> u64
+// 12, of state i of the case.
+fn state_number(words: &[u64], speeds: &[f64], at: usize, from: usize, n: usize, i: usize) -> u64
     requires { ⌜ CaseAt (now words) (now speeds) at from n ⌝ }
     requires { ⌜ i < n ⌝ }
-    ensures { λ r. ⌜ r ≡ rowNumberIn (now (words .entry)) (now (speeds .entry)) at from n i ⌝ }
+    ensures { λ r. ⌜ r ≡ stateNumberIn (now (words .entry)) (now (speeds .entry)) at from n i ⌝ }
 {
     let net = &words[..network::NETWORK_WORDS];
     let s = network::kept_segment(net, i as u32);
     let f = network::kept_entry(net, s.curve as u32, 0);
     let a = at + 16 * i;
     let b = from + i;
-    let r = segment::row_of(&words[a..], speeds[b]);
-    if row_bad(segment::merges_at(s.origin, i), s, f, r) {
+    let r = segment::state_of(&words[a..], speeds[b]);
+    if state_bad(segment::is_on_ramp(s.origin, i), s, f, r) {
         return 12;
     }
     0
 }
 
-// 12, of the first row that is not sound.
-fn rows_number(words: &[u64], speeds: &[f64], at: usize, from: usize, n: usize) -> u64
+// 12, of the first state that is not sound.
+fn states_number(words: &[u64], speeds: &[f64], at: usize, from: usize, n: usize) -> u64
     requires { ⌜ CaseAt (now words) (now speeds) at from n ⌝ }
-    ensures { λ r. ⌜ r ≡ firstOf (rowNumberIn (now (words .entry)) (now (speeds .entry)) at from n) n ⌝ }
+    ensures { λ r. ⌜ r ≡ firstOf (stateNumberIn (now (words .entry)) (now (speeds .entry)) at from n) n ⌝ }
 {
     let mut i = 0;
     while i < n {
-        let r = row_number(words, speeds, at, from, n, i);
+        let r = state_number(words, speeds, at, from, n, i);
         if r != 0 {
             return r;
         }
@@ -120,29 +120,29 @@ fn rows_number(words: &[u64], speeds: &[f64], at: usize, from: usize, n: usize) 
     0
 }
 
-// held is the mv in segments and queues.
-fn totals_bad(held: u64, steps: u64, arrivals: u64, exits: u64, time: u64) -> bool
-    ensures { λ r. ⌜ r ≡ totalsBad held steps arrivals exits time ⌝ }
+// vehicles is the mv in segments and queues.
+fn totals_bad(vehicles: u64, steps: u64, arrivals: u64, exits: u64, time: u64) -> bool
+    ensures { λ r. ⌜ r ≡ totalsBad vehicles steps arrivals exits time ⌝ }
 {
-    (1000000000000 < held)
+    (1000000000000 < vehicles)
         | (1000000000000 < arrivals)
         | (1000000000000 < exits)
         | (1000000000000000000 < time)
         | (20000 < steps)
 }
 
-// 12 where the case whose rows start at word at and whose speeds start at from is not sound.
+// 12 where the case whose states start at word at and whose speeds start at from is not sound.
 pub(crate) fn case_number(words: &[u64], speeds: &[f64], at: usize, from: usize, n: usize) -> u64
     requires { ⌜ CaseAt (now words) (now speeds) at from n ⌝ }
     ensures { λ r. ⌜ r ≡ caseNumberIn (now (words .entry)) (now (speeds .entry)) at from n ⌝ }
 {
-    let in_rows = rows_number(words, speeds, at, from, n);
-    if in_rows != 0 {
-        return in_rows;
+    let in_states = states_number(words, speeds, at, from, n);
+    if in_states != 0 {
+        return in_states;
     }
-    let held = totals::vehicles_in(words, at, n);
+    let vehicles = totals::vehicles_in(words, at, n);
     let e = at + 16 * n;
-    if totals_bad(held, words[e], words[e + 1], words[e + 2], words[e + 3]) {
+    if totals_bad(vehicles, words[e], words[e + 1], words[e + 2], words[e + 3]) {
         return 12;
     }
     0

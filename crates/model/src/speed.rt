@@ -1,16 +1,16 @@
 // The new speed of one segment: the bracketed binary64 expressions of document 01.
-use metanet::Old;
-use metanet::Sign;
 use format::Head;
 use format::Segment;
+use metanet::Old;
+use metanet::Sign;
 ghost use mathlib.Core.Path.{_≡_};
 ghost use Prim.Native.Nat.{_<_, _≤_};
 ghost use Rattle.laws.specs.Real.{real};
 ghost use Rattle.format.specs.Words.{entryIn};
 ghost use Rattle.format.proofs.Accepted.{HeadWithin, CurveWithin};
-ghost use Rattle.metanet.specs.Speed.{relaxation, convection, anticipation, merging, keep, newSpeed, curveSpeed, signed};
+ghost use Rattle.metanet.specs.Speed.{relaxation, convection, anticipation, merging, keep, newSpeed, curveSpeed, underSign};
 
-// A whole number made binary64. Up to 2^53 a signed number serves, which the machine converts in one step.
+// A whole number made binary64. Up to 2^53 a underSign number serves, which the machine converts in one step.
 pub(crate) fn whole(n: u64) -> f64
     requires { ⌜ n ≤ 9007199254740992 ⌝ }
     ensures { λ r. ⌜ r ≡ real n ⌝ }
@@ -94,7 +94,7 @@ pub(crate) fn curve_speed(net: &[u64], k: u64, n: u64, g: u64) -> f64
 
 // The desired speed under a sign.
 pub(crate) fn desired(v: f64, sign: Sign) -> f64
-    ensures { λ r. ⌜ r ≡ signed v sign ⌝ }
+    ensures { λ r. ⌜ r ≡ underSign v sign ⌝ }
 {
     match sign {
         Sign::Dark => v,
@@ -114,18 +114,18 @@ pub(crate) fn new_speed(
     free: u64,
     o: Old,
     want: f64,
-    merges: bool,
+    ramp: bool,
     release: u64,
 ) -> f64
     requires { ⌜ HeadWithin h ⌝ }
     requires { ⌜ (s .metres ≤ 2000) × (s .lanes ≤ 8) × (free ≤ 200000) × (release ≤ 300000) ⌝ }
-    ensures { λ r. ⌜ r ≡ newSpeed h s free o want merges release ⌝ }
+    ensures { λ r. ⌜ r ≡ newSpeed h s free o want ramp release ⌝ }
 {
     let a = relax(h, want, o.speed);
     let b = convect(h, s, o);
     let d = anticipate(h, s, o);
     let x = ((o.speed + a) + b) - d;
-    if merges {
+    if ramp {
         return kept(free, x - merge(h, s, o, release));
     }
     kept(free, x)

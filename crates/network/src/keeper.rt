@@ -1,8 +1,8 @@
 // The network of a file, kept in words. Places are those of docs/ARRANGEMENT.md; words that are free are 0.
-use format::Head;
-use format::Segment;
 use crate::number;
 use crate::records;
+use format::Head;
+use format::Segment;
 ghost use mathlib.Core.Path.{_≡_};
 ghost use Prim.Native.Nat.{_+_, _*_, _<_, _≤_};
 ghost use mathlib.Core.List.{_++_};

@@ -1,8 +1,8 @@
 // A segment's record, 16 bytes: rows 7 and 8.
-use format::Head;
-use format::Segment;
 use crate::curves;
 use crate::number;
+use format::Head;
+use format::Segment;
 ghost use mathlib.Core.Path.{_≡_};
 ghost use Prim.Native.Nat.{_+_, _<_, _≤_};
 ghost use mathlib.Core.Bool.{_&&_, _||_};

@@ -1,9 +1,9 @@
 // A network kept in words, a word a number: rows 4, 6, 7 and 8. Places are those of docs/ARRANGEMENT.md.
-use format::Head;
-use format::Segment;
 use crate::heads;
 use crate::number;
 use crate::records;
+use format::Head;
+use format::Segment;
 ghost use mathlib.Core.Path.{_≡_};
 ghost use Prim.Native.Nat.{_+_, _<_, _≤_};
 ghost use lib.ListN.{length};

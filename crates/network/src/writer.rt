@@ -1,8 +1,8 @@
 // A kept network as the bytes of its file.
-use format::Head;
-use format::Segment;
 use crate::number;
 use crate::words;
+use format::Head;
+use format::Segment;
 ghost use mathlib.Core.Path.{_≡_};
 ghost use Prim.Native.Nat.{_+_, _*_, _<_, _≤_};
 ghost use mathlib.Core.List.{_++_};

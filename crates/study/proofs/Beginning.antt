@@ -17,12 +17,12 @@ use Rattle.format.proofs.File.{network-within}
 use Rattle.format.proofs.Kept.{length-kept}
 use Rattle.format.proofs.KeptFile.{keep-accepted}
 use Rattle.format.proofs.KeepCall.{keep-is}
-use Rattle.metanet.specs.declared.Row.{Row}
-use Rattle.metanet.specs.Case.{Case, noRow, rowOf}
-use Rattle.metanet.specs.Words.{codedRow, codedWords, codedSpeeds}
+use Rattle.metanet.specs.declared.SegmentState.{SegmentState}
+use Rattle.metanet.specs.Case.{Case, noState, stateOf}
+use Rattle.metanet.specs.Words.{stateWords, caseWords, caseSpeeds}
 use Rattle.book.specs.Arrangement.{caseWord}
 use Rattle.book.specs.Calls.{start}
-use Rattle.metanet.specs.Start.{startRow, startCase}
+use Rattle.metanet.specs.Start.{startState, startCase}
 use Rattle.book.specs.Perform.{lent, startWords, startSpeeds, storedWords, storedSpeeds}
 use Rattle.study.specs.Ready.{openWords, openWordsOn, beginWords}
 use Rattle.study.proofs.Starting.{same-segment}
@@ -63,11 +63,11 @@ module _ (b mvs queues words : List ℕ) (z : fileNumber b ≡ 0) where
       let size-kept = length-kept (networkOf b) (network-within b z .head .curves-high) (network-within b z .head .size-high) in
       let m' : marked ≡ front ++ drop 2576 words = m ∙ put-after words kept (keptWords (networkOf b)) (replicate 16 0) 2560 16 size-kept k' in
       let r' : rowed ≡ (front ++ parts (openWordsOn b mvs queues) n) ++ drop (2576 + 16 * n) words = r ∙ puts-after words marked front 2576 16 (openWordsOn b mvs queues) n length-front m' in
-      let long-rows : length (front ++ parts (openWordsOn b mvs queues) n) ≡ 2576 + 16 * n =
+      let long-states : length (front ++ parts (openWordsOn b mvs queues) n) ≡ 2576 + 16 * n =
       length-append front (parts (openWordsOn b mvs queues) n) ∙ (λ j. length-front j + length-parts 16 (openWordsOn b mvs queues) n (λ i h. length-open _ _ _) j) in
       let place : 2576 + 16 * n + 8 ≡ 2584 + 16 * n = omega arith in
       l
-      ∙ put-after words rowed (front ++ parts (openWordsOn b mvs queues) n) (replicate 8 0) (2576 + 16 * n) 8 long-rows r'
+      ∙ put-after words rowed (front ++ parts (openWordsOn b mvs queues) n) (replicate 8 0) (2576 + 16 * n) 8 long-states r'
       ∙ append-assoc (front ++ parts (openWordsOn b mvs queues) n) (replicate 8 0) (drop (2576 + 16 * n + 8) words)
       ∙ append-assoc front (parts (openWordsOn b mvs queues) n) (replicate 8 0 ++ drop (2576 + 16 * n + 8) words)
       ∙ ap (λ (p : ℕ). front ++ (parts (openWordsOn b mvs queues) n ++ (replicate 8 0 ++ drop p words))) place
@@ -81,27 +81,27 @@ module _ (b mvs speeds queues : List ℕ) (z : fileNumber b ≡ 0) where
   abbrev c : Case
   c = startCase (networkOf b) mvs speeds queues
 
-  row-is : (i : ℕ) → i < n → rowOf (c .rows) i ≡ startRow (networkOf b) mvs speeds queues i
+  state-is : (i : ℕ) → i < n → stateOf (c .states) i ≡ startState (networkOf b) mvs speeds queues i
   unfolding startCase networkFrom
-  row-is i l = getD-table (startRow (networkOf b) mvs speeds queues) n i noRow l
+  state-is i l = getD-table (startState (networkOf b) mvs speeds queues) n i noState l
 
-  open-row : (i : ℕ) → i < n → codedRow (rowOf (c .rows) i) ≡ openWordsOn b mvs queues i
-  open-row i l = ap codedRow (row-is i l) ∙ made ∙ ap (λ (s : Segment). openWords (getD mvs i 0) (getD queues i 0) (s .most)) (same-segment b z i l)
+  open-state : (i : ℕ) → i < n → stateWords (stateOf (c .states) i) ≡ openWordsOn b mvs queues i
+  open-state i l = ap stateWords (state-is i l) ∙ made ∙ ap (λ (s : Segment). openWords (getD mvs i 0) (getD queues i 0) (s .most)) (same-segment b z i l)
     where
-      made : codedRow (startRow (networkOf b) mvs speeds queues i) ≡ openWords (getD mvs i 0) (getD queues i 0) (segmentOf (networkOf b) i .most)
-      made = unfold codedRow startRow openWords in refl
+      made : stateWords (startState (networkOf b) mvs speeds queues i) ≡ openWords (getD mvs i 0) (getD queues i 0) (segmentOf (networkOf b) i .most)
+      made = unfold stateWords startState openWords in refl
 
-  pub start-words : (words : List ℕ) (paces : List Float) → storedWords (start b mvs speeds queues) (lent words paces) ≡ beginWords b mvs queues n words
-  unfolding storedWords startWords codedWords beginWords startCase networkFrom
-  start-words words paces =
+  pub start-words : (words : List ℕ) (initial : List Float) → storedWords (start b mvs speeds queues) (lent words initial) ≡ beginWords b mvs queues n words
+  unfolding storedWords startWords caseWords beginWords startCase networkFrom
+  start-words words initial =
       sym (append-assoc (keptWords (networkOf b)) (replicate 16 0) _)
-      ∙ (λ j. (keptWords (networkOf b) ++ replicate 16 0) ++ (append-assoc (parts (λ i. codedRow (rowOf (c .rows) i)) n) (replicate 8 0) (drop (caseWord n 1) words)) j)
-      ∙ (λ j. (keptWords (networkOf b) ++ replicate 16 0) ++ (parts-ext _ _ n open-row j ++ (replicate 8 0 ++ drop (place j) words)))
+      ∙ (λ j. (keptWords (networkOf b) ++ replicate 16 0) ++ (append-assoc (parts (λ i. stateWords (stateOf (c .states) i)) n) (replicate 8 0) (drop (caseWord n 1) words)) j)
+      ∙ (λ j. (keptWords (networkOf b) ++ replicate 16 0) ++ (parts-ext _ _ n open-state j ++ (replicate 8 0 ++ drop (place j) words)))
     where
       place : caseWord n 1 ≡ 2584 + 16 * n
       place = omega arith
 
-  pub start-speeds : (words : List ℕ) (paces : List Float) → storedSpeeds (start b mvs speeds queues) (lent words paces) ≡ table (λ i. real (getD speeds i 0)) n ++ drop n paces
-  unfolding storedSpeeds startSpeeds codedSpeeds networkFrom
-  start-speeds words paces =
-      ap (λ (l : List Float). l ++ drop n paces) (table-ext (λ i. rowOf (c .rows) i .speed) (λ i. real (getD speeds i 0)) n (λ i l. ap (λ (r : Row). r .speed) (row-is i l) ∙ (unfold startRow in refl)))
+  pub start-speeds : (words : List ℕ) (initial : List Float) → storedSpeeds (start b mvs speeds queues) (lent words initial) ≡ table (λ i. real (getD speeds i 0)) n ++ drop n initial
+  unfolding storedSpeeds startSpeeds caseSpeeds networkFrom
+  start-speeds words initial =
+      ap (λ (l : List Float). l ++ drop n initial) (table-ext (λ i. stateOf (c .states) i .speed) (λ i. real (getD speeds i 0)) n (λ i l. ap (λ (r : SegmentState). r .speed) (state-is i l) ∙ (unfold startState in refl)))

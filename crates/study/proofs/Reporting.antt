@@ -1,4 +1,4 @@
--- Which row refuses a report, and that the figures read in the words are those of the case.
+-- Which state refuses a report, and that the figures read in the words are those of the case.
 use Prim.Native.Nat.{ℕ, suc, _+_, _*_, _≤_, _<_}
 use mathlib.Core.Path.{_≡_, refl, sym, ap, _∙_, subst}
 use mathlib.Core.Bool.{Bool, true, false, _&&_, _||_, not}
@@ -20,13 +20,13 @@ use Rattle.format.specs.declared.Head.{Head}
 use Rattle.format.specs.declared.Segment.{Segment}
 use Rattle.format.specs.Network.{segmentOf}
 use Rattle.format.specs.Words.{entryIn, segmentIn}
-use Rattle.metanet.specs.declared.Row.{Row}
-use Rattle.metanet.specs.Case.{rowOf}
-use Rattle.metanet.specs.Words.{netOf, rowIn, rowAt, rowsIn, caseIn}
-use Rattle.metanet.proofs.Ready.{RowOk, CaseAt}
+use Rattle.metanet.specs.declared.SegmentState.{SegmentState}
+use Rattle.metanet.specs.Case.{stateOf}
+use Rattle.metanet.specs.Words.{netOf, stateIn, stateAt, statesIn, caseIn}
+use Rattle.metanet.proofs.Ready.{StateOk, CaseAt}
 use Rattle.metanet.specs.Sound.{caseNumberIn}
 use Rattle.metanet.proofs.SegmentLaws.{segment-ok, truncating-speed}
-use Rattle.metanet.proofs.SoundLaws.{row-read, case-row}
+use Rattle.metanet.proofs.SoundLaws.{state-read, case-state}
 use Rattle.book.specs.declared.CaseReport.the-variants as caseReport
 use Rattle.book.specs.declared.SegmentReport.the-variants as segmentReport
 use Rattle.book.specs.Arrangement.{caseWord, caseSpeed, networkAt, sizeAt, markAt, filledAt, caseAt}
@@ -36,7 +36,7 @@ use Rattle.book.specs.Calls.{report, reportSegment, Answer, figures, caseSays, 
 use Rattle.book.specs.Refusal.{askedNumber, refusal}
 use Rattle.book.specs.Perform.{Arrays, lent, refusalAt}
 use Rattle.metanet.specs.Report.{caseFigures, segmentFigures}
-use Rattle.study.specs.Figures.{figureAt, figuresAt, rowFigures, Summable, Reportable, Showable}
+use Rattle.study.specs.Figures.{figureAt, figuresAt, stateFigures, Summable, Reportable, Showable}
 use Rattle.book.proofs.Judging.{placed, size-high}
 use Rattle.book.proofs.Sounds.{laid, case-sound}
 use Rattle.book.proofs.Performing.{judged, accepted-sound}
@@ -55,16 +55,16 @@ module _ (words : List ℕ) (speeds : List Float) where
 
   module _ (k : ℕ) where
     module _ (s : sound words speeds ≡ true) where
-      rows : refusalAt (report k) a ≡ row (ltb 6 k) 21 (row (not (eqb k 0 || filledAt words k)) 23 0)
+      states : refusalAt (report k) a ≡ row (ltb 6 k) 21 (row (not (eqb k 0 || filledAt words k)) 23 0)
       unfolding refusal askedNumber
-      rows = judged (report k) words speeds refl s
+      states = judged (report k) words speeds refl s
 
       pub case-none : 6 < k → 21 ≡ refusalAt (report k) a
-      case-none l = sym (rows ∙ row-applies _ _ _ (lt-ltb _ _ l))
+      case-none l = sym (states ∙ row-applies _ _ _ (lt-ltb _ _ l))
 
       module _ (l : k ≤ 6) where
         later : refusalAt (report k) a ≡ row (not (eqb k 0 || filledAt words k)) 23 0
-        later = rows ∙ row-skipped _ _ _ (le-ltb _ _ l)
+        later = states ∙ row-skipped _ _ _ (le-ltb _ _ l)
 
         pub case-live : k ≡ 0 → 0 ≡ refusalAt (report k) a
         case-live e = sym (later ∙ row-skipped _ _ _ (λ j. not (eq-eqb k 0 e j || filledAt words k)))
@@ -90,7 +90,7 @@ module _ (words : List ℕ) (speeds : List Float) where
       fine = accepted-sound (report k) words speeds refl z
 
       passed : row (ltb 6 k) 21 (row (not (eqb k 0 || filledAt words k)) 23 0) ≡ 0
-      passed = sym (rows fine) ∙ z
+      passed = sym (states fine) ∙ z
 
       pub reportable : Reportable words speeds (getD words 1 0) k
       reportable =
@@ -143,18 +143,18 @@ number-of nan t = absurd (t .above)
 number-of (inf s) t = tt
 number-of (fin s m e) t = tt
 
--- figure o of row i is read in the row's words
+-- figure o of state i is read in the state's words
 figure-read : (words : List ℕ) (at o i : ℕ) → figureAt words at o i ≡ getD (drop (at + 16 * i) words) o 0
 figure-read words at o i = sym (getD-drop (at + 16 * i) words o 0)
 
 module _ (words : List ℕ) (speeds : List Float) (at from n : ℕ) where
-  counts-sum : sumOf (figureAt words at 0) n ≡ sumOf (λ i. rowOf (rowsIn words speeds at from n) i .count) n
-  unfolding rowIn
-  counts-sum = sum-ext _ _ n (λ i l. figure-read words at 0 i ∙ ap (λ (r : Row). r .count) (sym (row-read words speeds at from n i l)))
+  counts-sum : sumOf (figureAt words at 0) n ≡ sumOf (λ i. stateOf (statesIn words speeds at from n) i .count) n
+  unfolding stateIn
+  counts-sum = sum-ext _ _ n (λ i l. figure-read words at 0 i ∙ ap (λ (r : SegmentState). r .count) (sym (state-read words speeds at from n i l)))
 
-  queues-sum : sumOf (figureAt words at 1) n ≡ sumOf (λ i. rowOf (rowsIn words speeds at from n) i .queue) n
-  unfolding rowIn
-  queues-sum = sum-ext _ _ n (λ i l. figure-read words at 1 i ∙ ap (λ (r : Row). r .queue) (sym (row-read words speeds at from n i l)))
+  queues-sum : sumOf (figureAt words at 1) n ≡ sumOf (λ i. stateOf (statesIn words speeds at from n) i .queue) n
+  unfolding stateIn
+  queues-sum = sum-ext _ _ n (λ i l. figure-read words at 1 i ∙ ap (λ (r : SegmentState). r .queue) (sym (state-read words speeds at from n i l)))
 
 module _ {words : List ℕ} {speeds : List Float} {n k : ℕ} (p : Reportable words speeds n k) where
   abbrev at : ℕ
@@ -169,34 +169,34 @@ module _ {words : List ℕ} {speeds : List Float} {n k : ℕ} (p : Reportable wo
   zeroed : caseNumberIn words speeds at from n ≡ 0
   zeroed = ap (λ (m : ℕ). caseNumberIn words speeds (caseWord m k) (caseSpeed m k) m) (p .laid .size) ∙ p .sound
 
-  row-of : (i : ℕ) → i < n → RowOk (segmentIn (netOf words) i) (entryIn (netOf words) (segmentIn (netOf words) i .curve) 0) (rowAt words speeds at from i)
-  row-of = case-row place zeroed
+  state-of : (i : ℕ) → i < n → StateOk (segmentIn (netOf words) i) (entryIn (netOf words) (segmentIn (netOf words) i .curve) 0) (stateAt words speeds at from i)
+  state-of = case-state place zeroed
 
   -- the speed of segment i
   pub showable : (i : ℕ) → i < n → Showable (getD speeds (from + i) nan)
-  unfolding rowIn
+  unfolding stateIn
   showable i l =
-      let t = truncating-speed (segment-ok (p .laid .net) i (omega (arith, p .laid .size))) (row-of i l) in
+      let t = truncating-speed (segment-ok (p .laid .net) i (omega (arith, p .laid .size))) (state-of i l) in
       record { above = t .above; under = t .under; number = number-of _ t }
 
   pub counts-summable : Summable words at 0 n
-  unfolding rowIn
+  unfolding stateIn
   counts-summable =
       record {
         many = size-high (p .laid);
         room = place .room;
         inside = lit< tt;
-        high = λ i l. le-trans (le-of-eq (figure-read words at 0 i)) (row-of i l .count);
+        high = λ i l. le-trans (le-of-eq (figure-read words at 0 i)) (state-of i l .count);
       }
 
   pub queues-summable : Summable words at 1 n
-  unfolding rowIn
+  unfolding stateIn
   queues-summable =
       record {
         many = size-high (p .laid);
         room = place .room;
         inside = lit< tt;
-        high = λ i l. le-trans (le-of-eq (figure-read words at 1 i)) (row-of i l .queue);
+        high = λ i l. le-trans (le-of-eq (figure-read words at 1 i)) (state-of i l .queue);
       }
 
   -- the figures of the case
@@ -216,17 +216,17 @@ module _ {words : List ℕ} {speeds : List Float} {n k : ℕ} (p : Reportable wo
       shown : ℕ → ℕ → Answer
       shown m t =
           let c = caseIn words speeds (caseWord m k) (caseSpeed m k) m in
-          figures (c .steps ∷ sumOf (λ i. rowOf (c .rows) i .count) t ∷ sumOf (λ i. rowOf (c .rows) i .queue) t ∷ c .arrivals ∷ c .exits ∷ c .time ∷ [])
+          figures (c .steps ∷ sumOf (λ i. stateOf (c .states) i .count) t ∷ sumOf (λ i. stateOf (c .states) i .queue) t ∷ c .arrivals ∷ c .exits ∷ c .time ∷ [])
 
   -- the figures of segment i
   pub segment-shown :
       (i : ℕ) → i < n →
-      segmentSays (segmentReport.Figures (rowFigures (segmentIn (netOf words) i) (rowAt words speeds at from i)))
+      segmentSays (segmentReport.Figures (stateFigures (segmentIn (netOf words) i) (stateAt words speeds at from i)))
       ≡ figures (segmentFigures (networkAt words) (caseAt words speeds k) i)
-  unfolding rowFigures segmentFigures caseIn
+  unfolding stateFigures segmentFigures caseIn
   segment-shown i l =
-      (λ j. says (sym (segment-kept (netOf words) i (omega (arith, p .laid .size, l))) j) (sym (row-read words speeds at from n i l) j))
-      ∙ ap (λ (m : ℕ). says (segmentOf (networkAt words) i) (rowOf (rowsIn words speeds (caseWord m k) (caseSpeed m k) m) i)) (p .laid .size)
+      (λ j. says (sym (segment-kept (netOf words) i (omega (arith, p .laid .size, l))) j) (sym (state-read words speeds at from n i l) j))
+      ∙ ap (λ (m : ℕ). says (segmentOf (networkAt words) i) (stateOf (statesIn words speeds (caseWord m k) (caseSpeed m k) m) i)) (p .laid .size)
     where
-      says : Segment → Row → Answer
-      says s r = segmentSays (segmentReport.Figures (rowFigures s r))
+      says : Segment → SegmentState → Answer
+      says s r = segmentSays (segmentReport.Figures (stateFigures s r))

@@ -19,9 +19,9 @@ use Rattle.metanet.specs.declared.Setting.{Setting}
 use Rattle.book.specs.Arrangement.{networkAt, sizeAt}
 use Rattle.book.specs.Sound.{sound}
 use Rattle.book.specs.Calls.{sign, meter}
-use Rattle.metanet.specs.Change.{complianceBad, raised, keptCompliance, signRefused, settingRefused}
+use Rattle.metanet.specs.Change.{complianceBad, complianceWord, keptCompliance, signRefused, settingRefused}
 use Rattle.book.specs.Refusal.{refusal}
-use Rattle.book.specs.Perform.{refusalAt, rowWord, lent}
+use Rattle.book.specs.Perform.{refusalAt, stateWord, lent}
 use Rattle.book.proofs.Judging.{size-high}
 use Rattle.book.proofs.Sounds.{laid}
 use Rattle.book.proofs.Performing.{judged, accepted-sound}
@@ -36,33 +36,33 @@ compliance-tested (negsuc a) = or-false (ltb 499 a)
     or-false true = refl
     or-false false = refl
 
-pub raised-is : (z : ℤ) → complianceBad z ≡ false → z +ℤ pos 500 ≡ pos (raised z)
-raised-is (pos a) e = ap pos (omega arith)
-raised-is (negsuc a) e =
+pub compliance-word : (z : ℤ) → complianceBad z ≡ false → z +ℤ pos 500 ≡ pos (complianceWord z)
+compliance-word (pos a) e = ap pos (omega arith)
+compliance-word (negsuc a) e =
     let l = ltb-false 499 a e in
     ap (λ (t : Bool). cond t (negsuc (suc a - suc 500)) (pos (500 - suc a))) (le-ltb 500 (suc a) (omega arith)) ∙ ap pos (omega arith)
 
-pub raised-high : (z : ℤ) → complianceBad z ≡ false → raised z ≤ 1000
-raised-high (pos a) e = omega (arith, ltb-false 500 a e)
-raised-high (negsuc a) e = omega arith
+pub compliance-word-high : (z : ℤ) → complianceBad z ≡ false → complianceWord z ≤ 1000
+compliance-word-high (pos a) e = omega (arith, ltb-false 500 a e)
+compliance-word-high (negsuc a) e = omega arith
 
 -- a sign that is not dark
-pub shown-compliance : (limit : ℕ) (z : ℤ) → (limit ≡ 0 → ⊥) → keptCompliance limit z ≡ raised z
+pub shown-compliance : (limit : ℕ) (z : ℤ) → (limit ≡ 0 → ⊥) → keptCompliance limit z ≡ complianceWord z
 shown-compliance zero z some = absurd (some refl)
 shown-compliance (suc limit) z some = refl
 
--- ---- segment i's row in the live case, i from 1
+-- ---- segment i's state in the live case, i from 1
 
-pub record RowWithin (words : List ℕ) (i : ℕ) : Type 0 where
+pub record StateWithin (words : List ℕ) (i : ℕ) : Type 0 where
   pub low : 1 ≤ i
   pub high : i ≤ sizeAt words
   pub small : i ≤ 40
-  pub room : rowWord i + 16 ≤ length words
+  pub room : stateWord i + 16 ≤ length words
 
 module _ (words : List ℕ) (speeds : List Float) (i : ℕ) where
   module _ (s : sound words speeds ≡ true) where
-    pub row-within : outside 1 i (sizeAt words) ≡ false → RowWithin words i
-    row-within e =
+    pub state-within : outside 1 i (sizeAt words) ≡ false → StateWithin words i
+    state-within e =
         let l = laid words speeds s in
         let low = inside-low 1 i (sizeAt words) e in
         let high = inside-high 1 i (sizeAt words) e in
@@ -126,13 +126,13 @@ module _ (words : List ℕ) (speeds : List Float) (i : ℕ) where
     sign-sound : sound words speeds ≡ true
     sign-sound = accepted-sound (sign i limit z) words speeds refl e
 
-    pub sign-within : RowWithin words i
-    sign-within = row-within sign-sound (row-passed _ _ _ (sym (sign-judged sign-sound limit z) ∙ e))
+    pub sign-within : StateWithin words i
+    sign-within = state-within sign-sound (row-passed _ _ _ (sym (sign-judged sign-sound limit z) ∙ e))
 
     pub sign-compliance : complianceBad z ≡ false
     sign-compliance = or-right (not (eqb limit 0) && outside 20 limit 200) (complianceBad z) (row-passed _ _ _ (row-later _ _ _ (sym (sign-judged sign-sound limit z) ∙ e)))
 
-  pub meter-within : (m : Setting) → refusalAt (meter i m) (lent words speeds) ≡ 0 → RowWithin words i
+  pub meter-within : (m : Setting) → refusalAt (meter i m) (lent words speeds) ≡ 0 → StateWithin words i
   meter-within m e =
       let s = accepted-sound (meter i m) words speeds refl e in
-      row-within s (row-passed _ _ _ (sym (meter-judged s m) ∙ e))
+      state-within s (row-passed _ _ _ (sym (meter-judged s m) ∙ e))

@@ -9,20 +9,20 @@ use lib.IntN.{pos}
 use lib.Ieee.{Float, fin, binary64, isNan, lt, toBits, toUnsigned}
 use Rattle.laws.specs.Sums.{sumOf}
 use Rattle.format.specs.declared.Segment.{Segment}
-use Rattle.metanet.specs.declared.Row.{Row}
+use Rattle.metanet.specs.declared.SegmentState.{SegmentState}
 use Rattle.metanet.specs.Step.{rateOf}
 use Rattle.metanet.specs.Sound.{mvMost}
 use Rattle.book.specs.declared.CaseFigures.{CaseFigures}
 use Rattle.book.specs.declared.SegmentFigures.{SegmentFigures}
 use Rattle.book.specs.Arrangement.{slots}
-use Rattle.book.specs.Sound.{placeNumber}
+use Rattle.book.specs.Sound.{caseNumberAt}
 use Rattle.book.proofs.Laid.{Laid}
 
--- figure o of row i of the case whose rows start at word at: 0 is N, 1 is w
+-- figure o of state i of the case whose states start at word at: 0 is N, 1 is w
 abbrev pub figureAt : List ℕ → ℕ → ℕ → ℕ → ℕ
 figureAt words at o i = getD words (at + 16 * i + o) 0
 
--- the figures of that case, which has n rows
+-- the figures of that case, which has n states
 unfoldable pub figuresAt : List ℕ → ℕ → ℕ → CaseFigures
 figuresAt words at n =
     record {
@@ -34,10 +34,10 @@ figuresAt words at n =
       time = getD words (at + 16 * n + 3) 0;
     }
 
--- the figures of a segment, from its row
-unfoldable pub rowFigures : Segment → Row → SegmentFigures
+-- the figures of a segment, from its state
+unfoldable pub stateFigures : Segment → SegmentState → SegmentFigures
 unfolding rateOf
-rowFigures s r =
+stateFigures s r =
     record {
       count = r .count;
       whole = toUnsigned 64 (r .speed);
@@ -50,7 +50,7 @@ rowFigures s r =
 
 -- ---- what reading them rests on
 
--- the case stands in the words, and figure o of its rows can be summed
+-- the case stands in the words, and figure o of its states can be summed
 pub record Summable (words : List ℕ) (at o n : ℕ) : Type 0 where
   pub many : n ≤ 40
   pub room : at + 16 * n + 8 ≤ length words
@@ -61,7 +61,7 @@ pub record Summable (words : List ℕ) (at o n : ℕ) : Type 0 where
 pub record Reportable (words : List ℕ) (speeds : List Float) (n k : ℕ) : Type 0 where
   pub laid : Laid words speeds n
   pub high : k ≤ slots
-  pub sound : placeNumber words speeds k ≡ 0
+  pub sound : caseNumberAt words speeds k ≡ 0
 
 -- a speed has a whole part that 64 bits hold, and it has bits
 pub record Showable (v : Float) : Type 0 where

@@ -22,14 +22,14 @@ pub record Listed (b mvs speeds queues : List ℕ) : Type 0 where
 
 -- ---- what Start writes, part by part
 
--- the 16 words of a row with a dark sign and an open ramp, flows 0
+-- the 16 words of a state with a dark sign and an open ramp, flows 0
 unfoldable pub openWords : ℕ → ℕ → ℕ → List ℕ
 openWords mv queue most = mv ∷ queue ∷ 0 ∷ 0 ∷ 0 ∷ most ∷ 0 ∷ 0 ∷ 0 ∷ 0 ∷ 0 ∷ 0 ∷ 0 ∷ 0 ∷ 0 ∷ 0 ∷ []
 
 abbrev pub openWordsOn : List ℕ → List ℕ → List ℕ → ℕ → List ℕ
 openWordsOn b mvs queues i = openWords (getD mvs i 0) (getD queues i 0) (segmentOn b i .most)
 
--- the network, 16 words of run count and marks, the rows and 8 words of totals
+-- the network, 16 words of run count and marks, the states and 8 words of totals
 unfoldable pub beginWords : List ℕ → List ℕ → List ℕ → ℕ → List ℕ → List ℕ
 beginWords b mvs queues n words =
     (keptWords (networkOf b) ++ replicate 16 0) ++ (parts (openWordsOn b mvs queues) n ++ (replicate 8 0 ++ drop (2584 + 16 * n) words))

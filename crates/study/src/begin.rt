@@ -43,27 +43,27 @@ fn value_number(s: format::Segment, top: u64, mv: u64, speed: u64, queue: u64) -
 }
 
 // 14, of segment i, counted from 0.
-fn segment_number(file: &[u8], mvs: &[u32], starts: &[u32], queues: &[u32], i: usize) -> u64
-    requires { ⌜ Listed (now file) (now mvs) (now starts) (now queues) ⌝ }
+fn segment_number(file: &[u8], mvs: &[u32], initial: &[u32], queues: &[u32], i: usize) -> u64
+    requires { ⌜ Listed (now file) (now mvs) (now initial) (now queues) ⌝ }
     requires { ⌜ i < headOf (now file) .size ⌝ }
-    ensures { λ r. ⌜ r ≡ startNumberOn (now (file .entry)) (now (mvs .entry)) (now (starts .entry)) (now (queues .entry)) i ⌝ }
+    ensures { λ r. ⌜ r ≡ startNumberOn (now (file .entry)) (now (mvs .entry)) (now (initial .entry)) (now (queues .entry)) i ⌝ }
 {
     let s = network::segment_of(file, i as u32);
     let top = network::entry_of(file, s.curve as u32, 0);
     let mv = entry(mvs, i);
-    let speed = entry(starts, i);
+    let speed = entry(initial, i);
     let queue = entry(queues, i);
     value_number(s, top, mv, speed, queue)
 }
 
-fn segments_number(file: &[u8], mvs: &[u32], starts: &[u32], queues: &[u32], n: usize) -> u64
-    requires { ⌜ Listed (now file) (now mvs) (now starts) (now queues) ⌝ }
+fn segments_number(file: &[u8], mvs: &[u32], initial: &[u32], queues: &[u32], n: usize) -> u64
+    requires { ⌜ Listed (now file) (now mvs) (now initial) (now queues) ⌝ }
     requires { ⌜ n ≡ headOf (now file) .size ⌝ }
-    ensures { λ r. ⌜ r ≡ firstOf (startNumberOn (now (file .entry)) (now (mvs .entry)) (now (starts .entry)) (now (queues .entry))) n ⌝ }
+    ensures { λ r. ⌜ r ≡ firstOf (startNumberOn (now (file .entry)) (now (mvs .entry)) (now (initial .entry)) (now (queues .entry))) n ⌝ }
 {
     let mut i = 0;
     while i < n {
-        let r = segment_number(file, mvs, starts, queues, i);
+        let r = segment_number(file, mvs, initial, queues, i);
         if r != 0 {
             return r;
         }
@@ -78,10 +78,10 @@ pub(crate) fn start_number(
     speeds: &[f64],
     file: &[u8],
     mvs: &[u32],
-    starts: &[u32],
+    initial: &[u32],
     queues: &[u32],
 ) -> u64
-    ensures { λ r. ⌜ r ≡ refusalAt (start (now (file .entry)) (now (mvs .entry)) (now (starts .entry)) (now (queues .entry))) (lent (now (words .entry)) (now (speeds .entry))) ⌝ }
+    ensures { λ r. ⌜ r ≡ refusalAt (start (now (file .entry)) (now (mvs .entry)) (now (initial .entry)) (now (queues .entry))) (lent (now (words .entry)) (now (speeds .entry))) ⌝ }
 {
     let r = network::check(file);
     if r != 0 {
@@ -92,50 +92,50 @@ pub(crate) fn start_number(
     if (words.len() < crate::FIRST_CASE + 7 * (16 * n + 8)) | (speeds.len() < 7 * n) {
         return 11;
     }
-    if (mvs.len() != n) | (starts.len() != n) | (queues.len() != n) {
+    if (mvs.len() != n) | (initial.len() != n) | (queues.len() != n) {
         return 13;
     }
-    segments_number(file, mvs, starts, queues, n)
+    segments_number(file, mvs, initial, queues, n)
 }
 
-// A row at the start: dark sign, open ramp with R at Q, flows 0.
-fn row_words(mv: u64, queue: u64, most: u64) -> [u64; 16]
+// A state at the start: dark sign, open ramp with R at Q, flows 0.
+fn state_words(mv: u64, queue: u64, most: u64) -> [u64; 16]
     ensures { λ r. ⌜ r ≡ openWords mv queue most ⌝ }
 {
     [mv, queue, 0, 0, 0, most, 0, 0, 0, 0, 0, 0, 0, 0, 0, 0]
 }
 
-// Writes the row of segment i, counted from 0, over the part that it is lent.
-fn put_row(row: &mut [u64], file: &[u8], mvs: &[u32], queues: &[u32], i: usize)
-    requires { ⌜ (length (now row) ≡ 16) × (i < 40) × (i < length (now mvs)) × (i < length (now queues)) ⌝ }
-    ensures { λ _. ⌜ now (row .exit) ≡ openWords (getD (now (mvs .entry)) i 0) (getD (now (queues .entry)) i 0) (segmentOn (now (file .entry)) i .most) ⌝ }
+// Writes the state of segment i, counted from 0, over the part that it is lent.
+fn put_state(state: &mut [u64], file: &[u8], mvs: &[u32], queues: &[u32], i: usize)
+    requires { ⌜ (length (now state) ≡ 16) × (i < 40) × (i < length (now mvs)) × (i < length (now queues)) ⌝ }
+    ensures { λ _. ⌜ now (state .exit) ≡ openWords (getD (now (mvs .entry)) i 0) (getD (now (queues .entry)) i 0) (segmentOn (now (file .entry)) i .most) ⌝ }
 {
     let s = network::segment_of(file, i as u32);
-    let made = row_words(entry(mvs, i), entry(queues, i), s.most);
-    arrays::put_words(&made, row);
+    let made = state_words(entry(mvs, i), entry(queues, i), s.most);
+    arrays::put_words(&made, state);
 }
 
-// Writes the rows of the live case.
-fn put_rows(words: &mut [u64], file: &[u8], mvs: &[u32], queues: &[u32], n: usize)
+// Writes the states of the live case.
+fn put_states(words: &mut [u64], file: &[u8], mvs: &[u32], queues: &[u32], n: usize)
     requires { ⌜ (n ≤ 40) × (n ≤ length (now mvs)) × (n ≤ length (now queues)) × (2576 + 16 * n ≤ length (now words)) ⌝ }
     ensures { λ _. ⌜ now (words .exit) ≡ puts 16 (openWordsOn (now (file .entry)) (now (mvs .entry)) (now (queues .entry))) 2576 n (now (words .entry)) ⌝ }
 {
     let mut i = 0;
     while i < n {
         let to = crate::FIRST_CASE + 16 * i;
-        put_row(&mut words[to..to + 16], file, mvs, queues, i);
+        put_state(&mut words[to..to + 16], file, mvs, queues, i);
         i += 1;
     }
 }
 
 // Writes the speeds of the live case.
-pub(crate) fn put_speeds(speeds: &mut [f64], starts: &[u32], n: usize)
-    requires { ⌜ (n ≤ length (now starts)) × (n ≤ length (now speeds)) ⌝ }
-    ensures { λ _. ⌜ now (speeds .exit) ≡ table (λ i. real (getD (now (starts .entry)) i 0)) n ++ drop n (now (speeds .entry)) ⌝ }
+pub(crate) fn put_speeds(speeds: &mut [f64], initial: &[u32], n: usize)
+    requires { ⌜ (n ≤ length (now initial)) × (n ≤ length (now speeds)) ⌝ }
+    ensures { λ _. ⌜ now (speeds .exit) ≡ table (λ i. real (getD (now (initial .entry)) i 0)) n ++ drop n (now (speeds .entry)) ⌝ }
 {
     let mut i = 0;
     while i < n {
-        speeds[i] = starts[i] as f64;
+        speeds[i] = initial[i] as f64;
         i += 1;
     }
 }
@@ -157,6 +157,6 @@ pub(crate) fn put_words(words: &mut [u64], file: &[u8], mvs: &[u32], queues: &[u
 {
     network::keep(file, words);
     put_zeros(words, crate::RUN_WORD, 16);
-    put_rows(words, file, mvs, queues, n);
+    put_states(words, file, mvs, queues, n);
     put_zeros(words, crate::FIRST_CASE + 16 * n, 8);
 }

@@ -1,15 +1,15 @@
-// What a sign and a setting put into a segment's row of 16 words.
+// What a sign and a setting put into a segment's state of 16 words.
 use metanet::Setting;
 ghost use mathlib.Core.Path.{_≡_};
 ghost use mathlib.Core.Bool.{false};
 ghost use lib.ListN.{length, set};
-ghost use Rattle.metanet.specs.Change.{complianceBad, raised, keptCompliance};
+ghost use Rattle.metanet.specs.Change.{complianceBad, complianceWord, keptCompliance};
 ghost use Rattle.book.specs.Perform.{signedWords, meteredWords};
 
 // A compliance of −500..500 with 500 added.
-fn raised(compliance: i64) -> u64
+fn compliance_word(compliance: i64) -> u64
     requires { ⌜ complianceBad compliance ≡ false ⌝ }
-    ensures { λ r. ⌜ r ≡ raised compliance ⌝ }
+    ensures { λ r. ⌜ r ≡ complianceWord compliance ⌝ }
 {
     (compliance + 500) as u64
 }
@@ -22,21 +22,21 @@ fn kept_compliance(limit: u64, compliance: i64) -> u64
     if limit == 0 {
         return 0;
     }
-    raised(compliance)
+    compliance_word(compliance)
 }
 
-pub(crate) fn put_sign(row: &mut [u64], limit: u64, compliance: i64)
-    requires { ⌜ (length (now row) ≡ 16) × (complianceBad compliance ≡ false) ⌝ }
-    ensures { λ _. ⌜ now (row .exit) ≡ signedWords limit compliance (now (row .entry)) ⌝ }
+pub(crate) fn put_sign(state: &mut [u64], limit: u64, compliance: i64)
+    requires { ⌜ (length (now state) ≡ 16) × (complianceBad compliance ≡ false) ⌝ }
+    ensures { λ _. ⌜ now (state .exit) ≡ signedWords limit compliance (now (state .entry)) ⌝ }
 {
     let kept = kept_compliance(limit, compliance);
-    row[2] = limit;
-    row[3] = kept;
+    state[2] = limit;
+    state[3] = kept;
 }
 
 // Kind, rate R, and the four figures that only ALINEA has.
 fn put_figures(
-    row: &mut [u64],
+    state: &mut [u64],
     kind: u64,
     rate: u64,
     target: u64,
@@ -44,30 +44,30 @@ fn put_figures(
     least: u64,
     interval: u64,
 )
-    requires { ⌜ length (now row) ≡ 16 ⌝ }
-    ensures { λ _. ⌜ now (row .exit) ≡ set (set (set (set (set (set (now (row .entry)) 4 kind) 5 rate) 6 target) 7 gain) 8 least) 9 interval ⌝ }
+    requires { ⌜ length (now state) ≡ 16 ⌝ }
+    ensures { λ _. ⌜ now (state .exit) ≡ set (set (set (set (set (set (now (state .entry)) 4 kind) 5 rate) 6 target) 7 gain) 8 least) 9 interval ⌝ }
 {
-    row[4] = kind;
-    row[5] = rate;
-    row[6] = target;
-    row[7] = gain;
-    row[8] = least;
-    row[9] = interval;
+    state[4] = kind;
+    state[5] = rate;
+    state[6] = target;
+    state[7] = gain;
+    state[8] = least;
+    state[9] = interval;
 }
 
 // R of an open segment is its Q, and ALINEA begins at R = Q; most is Q.
-pub(crate) fn put_setting(row: &mut [u64], most: u64, setting: Setting)
-    requires { ⌜ length (now row) ≡ 16 ⌝ }
-    ensures { λ _. ⌜ now (row .exit) ≡ meteredWords most setting (now (row .entry)) ⌝ }
+pub(crate) fn put_setting(state: &mut [u64], most: u64, setting: Setting)
+    requires { ⌜ length (now state) ≡ 16 ⌝ }
+    ensures { λ _. ⌜ now (state .exit) ≡ meteredWords most setting (now (state .entry)) ⌝ }
 {
     match setting {
-        Setting::Open => put_figures(row, 0, most, 0, 0, 0, 0),
-        Setting::Fixed(rate) => put_figures(row, 1, rate, 0, 0, 0, 0),
+        Setting::Open => put_figures(state, 0, most, 0, 0, 0, 0),
+        Setting::Fixed(rate) => put_figures(state, 1, rate, 0, 0, 0, 0),
         Setting::Alinea {
             target,
             gain,
             least,
             interval,
-        } => put_figures(row, 2, most, target, gain, least, interval),
+        } => put_figures(state, 2, most, target, gain, least, interval),
     }
 }

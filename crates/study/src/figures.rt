@@ -10,11 +10,11 @@ ghost use lib.ListN.{length};
 ghost use Rattle.laws.specs.Sums.{sumOf};
 ghost use Rattle.format.specs.Words.{segmentIn};
 ghost use Rattle.metanet.specs.Case.{openKind};
-ghost use Rattle.metanet.specs.Words.{netOf, rowIn, rowAt};
+ghost use Rattle.metanet.specs.Words.{netOf, stateIn, stateAt};
 ghost use Rattle.book.specs.Arrangement.{caseWord, caseSpeed};
-ghost use Rattle.study.specs.Figures.{figureAt, figuresAt, rowFigures, Summable, Reportable, Showable};
+ghost use Rattle.study.specs.Figures.{figureAt, figuresAt, stateFigures, Summable, Reportable, Showable};
 
-// The sum of figure o of the n rows that start at word at.
+// The sum of figure o of the n states that start at word at.
 fn column(words: &[u64], at: usize, o: usize, n: usize) -> u64
     requires { ⌜ Summable (now words) at o n ⌝ }
     ensures { λ r. ⌜ r ≡ sumOf (figureAt (now (words .entry)) at o) n ⌝ }
@@ -57,11 +57,11 @@ fn rate_of(kind: u64, most: u64, rate: u64) -> u64
     rate
 }
 
-// The figures of the segment s, whose row starts these words and whose speed is v.
-fn row_figures(s: Segment, w: &[u64], v: f64) -> SegmentFigures
+// The figures of the segment s, whose state starts these words and whose speed is v.
+fn state_figures(s: Segment, w: &[u64], v: f64) -> SegmentFigures
     requires { ⌜ 16 ≤ length (now w) ⌝ }
     requires { ⌜ Showable v ⌝ }
-    ensures { λ r. ⌜ r ≡ rowFigures s (rowIn (now (w .entry)) v) ⌝ }
+    ensures { λ r. ⌜ r ≡ stateFigures s (stateIn (now (w .entry)) v) ⌝ }
 {
     SegmentFigures {
         count: w[0],
@@ -84,10 +84,10 @@ pub(crate) fn segment_figures(
 ) -> SegmentFigures
     requires { ⌜ Reportable (now words) (now speeds) n k ⌝ }
     requires { ⌜ i < n ⌝ }
-    ensures { λ r. ⌜ r ≡ rowFigures (segmentIn (netOf (now (words .entry))) i) (rowAt (now (words .entry)) (now (speeds .entry)) (caseWord n k) (caseSpeed n k) i) ⌝ }
+    ensures { λ r. ⌜ r ≡ stateFigures (segmentIn (netOf (now (words .entry))) i) (stateAt (now (words .entry)) (now (speeds .entry)) (caseWord n k) (caseSpeed n k) i) ⌝ }
 {
     let a = crate::FIRST_CASE + k * (16 * n + 8) + 16 * i;
     let b = k * n + i;
     let s = network::kept_segment(&words[..network::NETWORK_WORDS], i as u32);
-    row_figures(s, &words[a..], speeds[b])
+    state_figures(s, &words[a..], speeds[b])
 }

@@ -2,14 +2,14 @@
 ghost use mathlib.Core.Path.{_≡_};
 ghost use Prim.Native.Nat.{_+_, _<_, _≤_};
 ghost use Rattle.laws.specs.First.{firstOf};
-ghost use Rattle.book.specs.Sound.{placeNumber, slotNumber, casesNumber, soundNumber};
+ghost use Rattle.book.specs.Sound.{caseNumberAt, slotNumber, casesNumber, soundNumber};
 ghost use Rattle.book.proofs.Laid.{Laid};
 
 // Case k.
-fn place_number(words: &[u64], speeds: &[f64], n: usize, k: usize) -> u64
+fn case_number_at(words: &[u64], speeds: &[f64], n: usize, k: usize) -> u64
     requires { ⌜ Laid (now words) (now speeds) n ⌝ }
     requires { ⌜ k ≤ 6 ⌝ }
-    ensures { λ r. ⌜ r ≡ placeNumber (now (words .entry)) (now (speeds .entry)) k ⌝ }
+    ensures { λ r. ⌜ r ≡ caseNumberAt (now (words .entry)) (now (speeds .entry)) k ⌝ }
 {
     model::case_number(
         words,
@@ -33,7 +33,7 @@ fn slot_number(words: &[u64], speeds: &[f64], n: usize, k: usize) -> u64
     if mark == 0 {
         return 0;
     }
-    place_number(words, speeds, n, k)
+    case_number_at(words, speeds, n, k)
 }
 
 fn slots_number(words: &[u64], speeds: &[f64], n: usize) -> u64
@@ -59,7 +59,7 @@ fn cases_number(words: &[u64], speeds: &[f64], n: usize) -> u64
     if 1000000 < words[crate::RUN_WORD] {
         return 12;
     }
-    let live = place_number(words, speeds, n, 0);
+    let live = case_number_at(words, speeds, n, 0);
     if live != 0 {
         return live;
     }

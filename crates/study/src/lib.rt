@@ -3,7 +3,7 @@ mod judge; // judge.rt: whether a study is sound
 mod segment; // segment.rt: a segment by its number
 mod refuse; // refuse.rt: the number that refuses a call
 mod begin; // begin.rt: Start
-mod change; // change.rt: what a sign and a setting put into a row
+mod change; // change.rt: what a sign and a setting put into a state
 mod copy; // copy.rt: a case copied to the place of another
 mod figures; // figures.rt: the figures that a report gives
 
@@ -39,19 +39,19 @@ pub fn start(
     speeds: &mut [f64],
     file: &[u8],
     mvs: &[u32],
-    starts: &[u32],
+    initial: &[u32],
     queues: &[u32],
 ) -> Verdict
-    ensures { λ r. ⌜ Performs (start (now (file .entry)) (now (mvs .entry)) (now (starts .entry)) (now (queues .entry))) (now (words .entry)) (now (speeds .entry)) (verdictSays r) (now (words .exit)) (now (speeds .exit)) ⌝ }
+    ensures { λ r. ⌜ Performs (start (now (file .entry)) (now (mvs .entry)) (now (initial .entry)) (now (queues .entry))) (now (words .entry)) (now (speeds .entry)) (verdictSays r) (now (words .exit)) (now (speeds .exit)) ⌝ }
 {
-    let r = begin::start_number(words, speeds, file, mvs, starts, queues);
+    let r = begin::start_number(words, speeds, file, mvs, initial, queues);
     if r != 0 {
         return Verdict::Refused(r);
     }
     let h = network::head_of(file);
     let n = h.size as usize;
     begin::put_words(words, file, mvs, queues, n);
-    begin::put_speeds(speeds, starts, n);
+    begin::put_speeds(speeds, initial, n);
     Verdict::Accepted
 }
 

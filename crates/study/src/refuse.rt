@@ -1,6 +1,6 @@
 // The number that refuses a call: 12 where the study is not sound, then the rows of its part of the table in their order, or 0.
-use metanet::Setting;
 use crate::segment;
+use metanet::Setting;
 ghost use mathlib.Core.Path.{_≡_};
 ghost use Rattle.book.specs.Calls.{sign, meter, step, hold, recall, report, reportSegment};
 ghost use Rattle.metanet.specs.Change.{complianceBad, signRefused, settingRefused};

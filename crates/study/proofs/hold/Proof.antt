@@ -41,7 +41,7 @@ hold-spec =
     (λ c κs. search needs) (λ c. search needs) (λ c. search needs) returns
     (λ c. omega (arith, slot (c .before) .laid .room))
     (λ c κs. let t = slot (c .before .before) in (size-high (t .laid), omega arith, omega arith, t .laid .room))
-    (λ c κs. let t = slot (copied (c .before .before .before)) in (size-high (t .laid), omega arith, omega arith, t .laid .lane))
+    (λ c κs. let t = slot (copied (c .before .before .before)) in (size-high (t .laid), omega arith, omega arith, t .laid .speed-room))
     (λ c. omega (arith, slot (tested c) .high))
     (λ c. omega (arith, slot (tested c) .high))
     (λ c. omega (arith, slot (tested c) .high, slot (tested c) .laid .room))

@@ -7,9 +7,9 @@ use Rattle.laws.proofs.Puts.{part-changed}
 use Rattle.format.specs.Network.{segmentOf}
 use Rattle.book.specs.Arrangement.{networkAt}
 use Rattle.book.specs.Calls.{meter}
-use Rattle.book.specs.Perform.{refusalAt, rowWord, meteredWords, storedWords, storedSpeeds, answerOf, lent}
+use Rattle.book.specs.Perform.{refusalAt, stateWord, meteredWords, storedWords, storedSpeeds, answerOf, lent}
 use Rattle.book.proofs.Performing.{refuses, accepts}
-use Rattle.study.proofs.Settings.{RowWithin, meter-within}
+use Rattle.study.proofs.Settings.{StateWithin, meter-within}
 use Rattle.study.proofs.meter.Statement.{statement}
 use Rattle.study.proofs.meter.Tie as tie
 
@@ -19,12 +19,12 @@ start c = c .before .before .before .before .before
 accepted : (c : tie.Else1) → let a = start c .args in refusalAt (meter (a .i) (a .setting)) (lent (a .words .now) (a .speeds .now)) ≡ 0
 accepted c = sym (c .before .meter-number .ensures) ∙ c .if1 .left
 
-within : (c : tie.Else1) → let a = start c .args in RowWithin (a .words .now) (a .i)
+within : (c : tie.Else1) → let a = start c .args in StateWithin (a .words .now) (a .i)
 within c = meter-within _ _ _ _ (accepted c)
 
--- where the row is computed and lent
-abbrev row-at : tie.After-segment-at → tie.Else1
-row-at c = c .before .before
+-- where the state is computed and lent
+abbrev state-at : tie.After-segment-at → tie.Else1
+state-at c = c .before .before
 
 returns : tie.Need-returns
 returns c = refuses _ _ _ (c .before .meter-number .ensures) (c .if1 .taken)
@@ -33,10 +33,10 @@ returns-2 : tie.Need-returns-2
 unfolding storedWords storedSpeeds answerOf
 returns-2 c =
     let e = c .before .before .before .before in
-    let a = start (row-at e) .args in
-    let at = rowWord (a .i) in
+    let a = start (state-at e) .args in
+    let at = stateWord (a .i) in
     let q = segmentOf (networkAt (a .words .now)) (a .i - 1) .most in
-    accepts _ _ _ (accepted (row-at e)) refl
+    accepts _ _ _ (accepted (state-at e)) refl
     (part-changed (a .words .now) _ (meteredWords q (a .setting)) at 16 _ (span at 16) (rw (e .segment-at .ensures) at (c .before .before .put-setting .ensures)))
     refl
 
@@ -46,6 +46,6 @@ meter-spec =
     (tie.spec
     (λ c κs. search needs) (λ c. search needs) returns
     (λ c κs. let w = within (c .before) in (omega (arith, w .room), w .low, w .high, w .small))
-    (λ c. within (row-at c) .low) (λ c. omega (arith, within (row-at c))) (λ c. omega (arith, within (row-at c)))
-    (λ c. omega (arith, within (row-at c))) (λ c. omega (arith, within (row-at c))) (λ c. search needs)
-    (λ c. search needs) (λ c. omega (arith, within (row-at c))) (λ c κs. search needs) (λ c. search needs) returns-2)
+    (λ c. within (state-at c) .low) (λ c. omega (arith, within (state-at c))) (λ c. omega (arith, within (state-at c)))
+    (λ c. omega (arith, within (state-at c))) (λ c. omega (arith, within (state-at c))) (λ c. search needs)
+    (λ c. search needs) (λ c. omega (arith, within (state-at c))) (λ c κs. search needs) (λ c. search needs) returns-2)

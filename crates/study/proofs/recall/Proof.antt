@@ -41,5 +41,5 @@ recall-spec =
     (λ c κs. search needs) (λ c. search needs) (λ c. search needs) returns
     (λ c. omega (arith, slot (c .before) .laid .room))
     (λ c κs. let t = slot (c .before .before) in (size-high (t .laid), omega arith, omega arith, t .laid .room))
-    (λ c κs. let t = slot (copied (c .before .before .before)) in (size-high (t .laid), omega arith, omega arith, t .laid .lane))
+    (λ c κs. let t = slot (copied (c .before .before .before)) in (size-high (t .laid), omega arith, omega arith, t .laid .speed-room))
     (λ c. search needs) (λ c. search needs) returns-2)

@@ -8,9 +8,9 @@ use Rattle.laws.proofs.Lists.{span, length-part}
 use Rattle.laws.proofs.Puts.{part-changed}
 use Rattle.book.specs.Calls.{sign}
 use Rattle.metanet.specs.Change.{complianceBad}
-use Rattle.book.specs.Perform.{refusalAt, rowWord, signedWords, storedWords, storedSpeeds, answerOf, lent}
+use Rattle.book.specs.Perform.{refusalAt, stateWord, signedWords, storedWords, storedSpeeds, answerOf, lent}
 use Rattle.book.proofs.Performing.{refuses, accepts}
-use Rattle.study.proofs.Settings.{RowWithin, sign-within, sign-compliance}
+use Rattle.study.proofs.Settings.{StateWithin, sign-within, sign-compliance}
 use Rattle.study.proofs.sign.Statement.{statement}
 use Rattle.study.proofs.sign.Tie as tie
 
@@ -29,7 +29,7 @@ accepted : (c : tie.Else1)
     → let a = start (c .before) .args in refusalAt (sign (a .i) (a .limit) (a .compliance)) (lent (a .words .now) (a .speeds .now)) ≡ 0
 accepted c = sym (number (c .before)) ∙ c .if1 .left
 
-within : (c : tie.Else1) → let a = start (c .before) .args in RowWithin (a .words .now) (a .i)
+within : (c : tie.Else1) → let a = start (c .before) .args in StateWithin (a .words .now) (a .i)
 within c = sign-within _ _ _ _ _ (accepted c)
 
 returns : tie.Need-returns
@@ -40,7 +40,7 @@ put-sign-requires c κs =
     let d = c .before in
     let s = start (d .before) in
     let w = s .args .words .now in
-    let at = rowWord (s .args .i) in
+    let at = stateWord (s .args .i) in
     (rw (span at 16) (length-part w at 16 (within d .room)), ap complianceBad (read s) ∙ sign-compliance _ _ _ _ _ (accepted d))
 
 returns-2 : tie.Need-returns-2
@@ -49,7 +49,7 @@ returns-2 c =
     let d = c .before .before .before .before in
     let s = start (d .before) in
     let a = s .args in
-    let at = rowWord (a .i) in
+    let at = stateWord (a .i) in
     accepts _ _ _ (accepted d) refl
     (part-changed (a .words .now) _ (signedWords (a .limit) (a .compliance)) at 16 _ (span at 16) (rw (read s) at (c .before .before .put-sign .ensures)))
     refl

@@ -16,7 +16,7 @@ use Rattle.study.proofs.start.Tie as tie
 abbrev begin : tie.Else1 → tie.Start
 begin c = c .before .before .before .before .before .before .before .before .before .before
 
-taken : (c : tie.Else1) → let a = begin c .args in refusalAt (calls.start (now (a .file)) (now (a .mvs)) (now (a .starts)) (now (a .queues))) (lent (now (a .words)) (now (a .speeds))) ≡ 0
+taken : (c : tie.Else1) → let a = begin c .args in refusalAt (calls.start (now (a .file)) (now (a .mvs)) (now (a .initial)) (now (a .queues))) (lent (now (a .words)) (now (a .speeds))) ≡ 0
 taken c = sym (c .before .start-number .ensures) ∙ c .if1 .left
 
 size : (c : tie.After-head-of) → c .head-of .result .size ≡ headOf (now (begin (c .before) .args .file)) .size

@@ -1,4 +1,4 @@
--- The invariant: sum is what the first i rows hold. The measure: the rows still to come.
+-- The invariant: sum is what the first i states hold. The measure: the states still to come.
 use Prim.Native.Nat.{_-_, _≤_}
 use mathlib.Core.Path.{refl}
 use native.Mathlib.Omega.{arith}
@@ -17,14 +17,14 @@ abbrev μ-loop : tie.MeasureT-loop
 loop-holds : tie.Need-loop-holds Inv-loop μ-loop
 loop-holds c = (omega arith, sum-none)
 
-held : (c : tie.After-shared-slice-known2 Inv-loop μ-loop)
+vehicles : (c : tie.After-shared-slice-known2 Inv-loop μ-loop)
     → (let l = c .before .before .before in vehiclesAt (l .before .args .words .now) (l .before .args .at) (l .loop .i) ≤ 2000000000000)
-held c = c .before .before .before .before .pre .1 _ (c .before .before .loop-test .taken)
+vehicles c = c .before .before .before .before .pre .1 _ (c .before .before .loop-test .taken)
 
 loop-again : tie.Need-loop-again Inv-loop μ-loop
 loop-again c =
     let l = c .before .before .before .loop in
-    (omega arith, sum-more (l .inv .1) refl (held c))
+    (omega arith, sum-more (l .inv .1) refl (vehicles c))
 
 returns : tie.Need-returns Inv-loop μ-loop
 returns c =
@@ -36,5 +36,5 @@ vehicles-in-spec =
     tie.close
     (tie.spec
     Inv-loop μ-loop loop-holds (λ c. search needs) (λ c. search needs) (λ c. search needs) (λ c. search needs)
-    (λ c. search needs) (λ c. search needs) (λ c. search needs) (λ c. omega (arith, held c))
-    (λ c. omega (arith, held c)) (λ c. search needs) (λ c. search needs) loop-again returns)
+    (λ c. search needs) (λ c. search needs) (λ c. search needs) (λ c. omega (arith, vehicles c))
+    (λ c. omega (arith, vehicles c)) (λ c. search needs) (λ c. search needs) loop-again returns)

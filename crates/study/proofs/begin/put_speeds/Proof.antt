@@ -16,10 +16,10 @@ use Rattle.study.proofs.begin.put_speeds.Statement.{statement}
 use Rattle.study.proofs.begin.put_speeds.Tie as tie
 
 abbrev Inv-loop : tie.InvT-loop
-Inv-loop speeds₀ starts n i₀ speeds i = Stored (table (λ k. real (getD starts k 0)) n) 0 n speeds₀ speeds i
+Inv-loop speeds₀ initial n i₀ speeds i = Stored (table (λ k. real (getD initial k 0)) n) 0 n speeds₀ speeds i
 
 abbrev μ-loop : tie.MeasureT-loop
-μ-loop speeds₀ starts n i₀ speeds i = n - i
+μ-loop speeds₀ initial n i₀ speeds i = n - i
 
 kept-length : (c : tie.At-loop Inv-loop μ-loop) → length (c .loop .speeds) ≡ length (now (c .before .args .speeds))
 kept-length c = stored-length (length-table _ _) (omega (arith, c .before .pre .1)) (c .loop .inv)
@@ -41,7 +41,7 @@ returns c =
     let s = c .before .before in
     let l : List Float = now (s .args .speeds) in
     stored-all (length-table _ _) (omega (arith, s .pre .1)) (c .before .loop .inv) (c .loop-test .left)
-    ∙ ap (λ (m : ℕ). table (λ k. real (getD (now (s .args .starts)) k 0)) (s .args .n) ++ drop m l) (zero-add (s .args .n))
+    ∙ ap (λ (m : ℕ). table (λ k. real (getD (now (s .args .initial)) k 0)) (s .args .n) ++ drop m l) (zero-add (s .args .n))
 
 pub put-speeds-spec : {M : Type 1} → statement M
 put-speeds-spec =

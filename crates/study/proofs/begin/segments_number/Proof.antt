@@ -8,10 +8,10 @@ use Rattle.study.proofs.begin.segments_number.Statement.{statement}
 use Rattle.study.proofs.begin.segments_number.Tie as tie
 
 abbrev Inv-loop : tie.InvT-loop
-Inv-loop file mvs starts queues n i₀ i = Passed (startNumberOn file mvs starts queues) n i
+Inv-loop file mvs initial queues n i₀ i = Passed (startNumberOn file mvs initial queues) n i
 
 abbrev μ-loop : tie.MeasureT-loop
-μ-loop file mvs starts queues n i₀ i = n - i
+μ-loop file mvs initial queues n i₀ i = n - i
 
 segment-number-requires : tie.Need-segment-number-requires Inv-loop μ-loop
 segment-number-requires c κs = (c .before .before .before .before .before .before .pre .0, omega (arith, c .loop-test .taken, c .before .before .before .before .before .before .pre .1))

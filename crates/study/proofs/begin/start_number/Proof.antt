@@ -23,7 +23,7 @@ size c = ap (λ (h : Head). h .size) (c .head-of .ensures)
 small : (c : tie.After-head-of) → c .head-of .result .size ≤ 40
 small c = omega (arith, size c, size-high _ (accepted (c .before)))
 
-listed : (c : tie.Else3) → let a = start (c .before .before .before) .args in Listed (a .file .now) (a .mvs .now) (a .starts .now) (a .queues .now)
+listed : (c : tie.Else3) → let a = start (c .before .before .before) .args in Listed (a .file .now) (a .mvs .now) (a .initial .now) (a .queues .now)
 unfolding anyOf orFrom
 listed c = let h = c .before .before in lists-even _ (accepted (h .before)) _ _ _ (rw (size h) at (c .if3 .left))
 

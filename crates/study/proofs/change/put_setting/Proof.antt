@@ -12,21 +12,21 @@ unfolding meteredWords
 returns c =
     let m = c .before .before .before .before in
     let a = m .before .before .before .args in
-    c .before .before .put-figures .ensures ∙ ap (λ (x : Setting). meteredWords (a .most) x (now (a .row))) (sym (m .enum-told .given .1))
+    c .before .before .put-figures .ensures ∙ ap (λ (x : Setting). meteredWords (a .most) x (now (a .state))) (sym (m .enum-told .given .1))
 
 returns-2 : tie.Need-returns-2
 unfolding meteredWords
 returns-2 c =
     let m = c .before .before .before .before .before in
     let a = m .before .before .before .args in
-    c .before .before .put-figures2 .ensures ∙ ap (λ (x : Setting). meteredWords (a .most) x (now (a .row))) (sym (m .setting .given .1))
+    c .before .before .put-figures2 .ensures ∙ ap (λ (x : Setting). meteredWords (a .most) x (now (a .state))) (sym (m .setting .given .1))
 
 returns-3 : tie.Need-returns-3
 unfolding meteredWords
 returns-3 c =
     let m = c .before .before .before .before .before in
     let a = m .before .before .before .args in
-    c .before .before .put-figures3 .ensures ∙ ap (λ (x : Setting). meteredWords (a .most) x (now (a .row))) (sym (m .setting2 .given .1))
+    c .before .before .put-figures3 .ensures ∙ ap (λ (x : Setting). meteredWords (a .most) x (now (a .state))) (sym (m .setting2 .given .1))
 
 pub put-setting-spec : {M : Type 1} → statement M
 put-setting-spec =

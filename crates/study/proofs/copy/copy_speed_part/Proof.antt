@@ -1,11 +1,11 @@
--- The part goes into the front of the held list, and from there over the other part.
+-- The part goes into the front of the buffer list, and from there over the other part.
 use mathlib.Core.Path.{sym}
 use borrow.Author.Needs.{needs}
 use Rattle.arrays.proofs.Over.{Parts, front-length, held-length, part-over}
 use Rattle.study.proofs.copy.copy_speed_part.Statement.{statement}
 use Rattle.study.proofs.copy.copy_speed_part.Tie as tie
 
-parts : (s : tie.Start) → Parts (s .args .speeds .now) (s .args .held .now) (s .args .from) (s .args .to) (s .args .len)
+parts : (s : tie.Start) → Parts (s .args .speeds .now) (s .args .buffer .now) (s .args .from) (s .args .to) (s .args .len)
 parts s = record { first = s .pre .0; second = s .pre .1; room = s .pre .2 }
 
 abbrev start : tie.After-put-speeds → tie.Start

@@ -6,7 +6,7 @@ use Rattle.book.specs.Perform.{copiedSpeeds}
 use Rattle.study.proofs.copy.copy_speeds.Statement.{statement}
 use Rattle.study.proofs.copy.copy_speeds.Tie as tie
 
-abbrev start : tie.After-held → tie.Start
+abbrev start : tie.After-buffer → tie.Start
 start c = c .before .before .before
 
 copy-speed-part-requires : tie.Need-copy-speed-part-requires

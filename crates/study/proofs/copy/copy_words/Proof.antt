@@ -6,7 +6,7 @@ use Rattle.book.specs.Perform.{copiedWords}
 use Rattle.study.proofs.copy.copy_words.Statement.{statement}
 use Rattle.study.proofs.copy.copy_words.Tie as tie
 
-abbrev start : tie.After-held → tie.Start
+abbrev start : tie.After-buffer → tie.Start
 start c = c .before .before .before
 
 -- a case's first word is small, and its words are within the lent ones

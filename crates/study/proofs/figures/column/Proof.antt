@@ -1,4 +1,4 @@
--- The invariant: sum is the sum of the figure over the first i rows. The measure: the rows still to come.
+-- The invariant: sum is the sum of the figure over the first i states. The measure: the states still to come.
 use Prim.Native.Nat.{_-_, _≤_}
 use mathlib.Core.Path.{refl}
 use native.Mathlib.Omega.{arith}
@@ -17,14 +17,14 @@ abbrev μ-loop : tie.MeasureT-loop
 loop-holds : tie.Need-loop-holds Inv-loop μ-loop
 loop-holds c = (omega arith, sum-none)
 
-held : (c : tie.After-shared-slice-known Inv-loop μ-loop)
+figure : (c : tie.After-shared-slice-known Inv-loop μ-loop)
     → (let l = c .before .before in figureAt (l .before .args .words .now) (l .before .args .at) (l .before .args .o) (l .loop .i) ≤ 1000000000000)
-held c = c .before .before .before .pre .high _ (c .before .loop-test .taken)
+figure c = c .before .before .before .pre .high _ (c .before .loop-test .taken)
 
 loop-again : tie.Need-loop-again Inv-loop μ-loop
 loop-again c =
     let l = c .before .before .loop in
-    (omega arith, sum-more (l .inv .1) refl (held c))
+    (omega arith, sum-more (l .inv .1) refl (figure c))
 
 returns : tie.Need-returns Inv-loop μ-loop
 returns c =
@@ -36,4 +36,4 @@ column-spec =
     tie.close
     (tie.spec
     Inv-loop μ-loop loop-holds (λ c. search needs) (λ c. search needs) (λ c. search needs) (λ c. search needs)
-    (λ c. search needs) (λ c. omega (arith, held c)) (λ c. search needs) (λ c. search needs) loop-again returns)
+    (λ c. search needs) (λ c. omega (arith, figure c)) (λ c. search needs) (λ c. search needs) loop-again returns)

@@ -1,4 +1,4 @@
--- The segment, its row and its speed are read where the case stands.
+-- The segment, its state and its speed are read where the case stands.
 use Prim.Native.Nat.{_+_, _*_, _≤_, _<_}
 use mathlib.Core.Path.{sym, _∙_}
 use native.Mathlib.Nat.{mul-le-mul}
@@ -20,23 +20,23 @@ word s = let n : 16 * s .args .n + 8 ≤ 648 = omega (arith, size-high (s .pre .
 speed : (s : tie.Start) → s .args .k * s .args .n ≤ 6 * 40
 speed s = mul-le-mul (s .pre .0 .high) (size-high (s .pre .0 .laid))
 
--- the row and the speed stand in the arrays
+-- the state and the speed stand in the arrays
 room : (s : tie.Start) → caseWord (s .args .n) (s .args .k) + 16 * s .args .i + 16 ≤ length (s .args .words .now)
 room s = omega (arith, placed (s .pre .0 .laid) (s .args .k) (s .pre .0 .high) .room, s .pre .1)
 
-lane : (s : tie.Start) → caseSpeed (s .args .n) (s .args .k) + s .args .i < length (s .args .speeds .now)
-lane s = omega (arith, placed (s .pre .0 .laid) (s .args .k) (s .pre .0 .high) .lane, s .pre .1)
+speed-room : (s : tie.Start) → caseSpeed (s .args .n) (s .args .k) + s .args .i < length (s .args .speeds .now)
+speed-room s = omega (arith, placed (s .pre .0 .laid) (s .args .k) (s .pre .0 .high) .speed-room, s .pre .1)
 
 small : (s : tie.Start) → s .args .i < 40
 small s = omega (arith, size-high (s .pre .0 .laid), s .pre .1)
 
-row-figures-requires : tie.Need-row-figures-requires
-row-figures-requires c κs =
+state-figures-requires : tie.Need-state-figures-requires
+state-figures-requires c κs =
     let s = c .before .before .before .before .before .before in
     (simp (rest-is, length-drop) (omega (arith, room s)), showable (s .pre .0) (s .args .i) (s .pre .1))
 
 returns : tie.Need-returns
-returns c = c .row-figures .ensures ∙ simp (c .before .before .before .kept-segment .ensures, rest-is)
+returns c = c .state-figures .ensures ∙ simp (c .before .before .before .kept-segment .ensures, rest-is)
 
 pub segment-figures-spec : {M : Type 1} → statement M
 segment-figures-spec =
@@ -56,5 +56,5 @@ segment-figures-spec =
     (λ c. omega (arith, room (c .before .before .before .before)))
     (λ c. search needs)
     (λ c. let s = c .before .before .before .before .before in omega (arith, speed s, small s))
-    (λ c. omega (arith, lane (c .before .before .before .before .before .before)))
-    row-figures-requires returns)
+    (λ c. omega (arith, speed-room (c .before .before .before .before .before .before)))
+    state-figures-requires returns)

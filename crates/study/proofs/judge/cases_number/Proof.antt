@@ -11,13 +11,13 @@ returns c = runs-over (c .before .before .before .before .pre) (c .if1 .taken)
 returns-2 : tie.Need-returns-2
 returns-2 c =
     let d = c .before .before in
-    live-refused (d .before .before .before .before .pre) (d .if1 .left) (c .before .place-number .ensures) (c .if2 .taken)
+    live-refused (d .before .before .before .before .pre) (d .if1 .left) (c .before .case-number-at .ensures) (c .if2 .taken)
 
 returns-3 : tie.Need-returns-3
 returns-3 c =
     let live = c .before .before in
     let d = live .before in
-    slots-judged (d .before .before .before .before .pre) (d .if1 .left) (sym (live .place-number .ensures) ∙ c .before .if2 .left) (c .slots-number .ensures)
+    slots-judged (d .before .before .before .before .pre) (d .if1 .left) (sym (live .case-number-at .ensures) ∙ c .before .if2 .left) (c .slots-number .ensures)
 
 pub cases-number-spec : {M : Type 1} → statement M
 cases-number-spec =

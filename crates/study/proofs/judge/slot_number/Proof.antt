@@ -18,7 +18,7 @@ returns-3 : tie.Need-returns-3
 unfolding slotNumber
 returns-3 c =
     let d = c .before in
-    c .place-number .ensures ∙ sym (row-skipped _ _ _ (le-ltb _ _ (d .before .if1 .left)) ∙ row-skipped _ _ _ (ne-eqb _ _ (d .if2 .left)))
+    c .case-number-at .ensures ∙ sym (row-skipped _ _ _ (le-ltb _ _ (d .before .if1 .left)) ∙ row-skipped _ _ _ (ne-eqb _ _ (d .if2 .left)))
 
 pub slot-number-spec : {M : Type 1} → statement M
 slot-number-spec =

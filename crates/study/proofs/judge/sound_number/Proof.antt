@@ -38,7 +38,7 @@ laid c =
       net = kept-within _ (kept (c .before .before));
       size = size (c .before);
       room = ltb-false _ _ (or-left (ltb (length (a .words .now)) (wordsFor n)) _ (c .if3 .left));
-      lane = ltb-false _ _ (or-right (ltb (length (a .words .now)) (wordsFor n)) (ltb (length (a .speeds .now)) (speedsFor n)) (c .if3 .left));
+      speed-room = ltb-false _ _ (or-right (ltb (length (a .words .now)) (wordsFor n)) (ltb (length (a .speeds .now)) (speedsFor n)) (c .if3 .left));
     }
 
 returns : tie.Need-returns

@@ -8,7 +8,7 @@ use Rattle.laws.specs.First.{outside}
 use Rattle.book.specs.Arrangement.{sizeAt}
 use Rattle.book.specs.Sound.{sound}
 use Rattle.book.proofs.Performing.{unsound}
-use Rattle.study.proofs.Settings.{RowWithin, row-within, meter-missing, meter-no-ramp, meter-bad, meter-taken}
+use Rattle.study.proofs.Settings.{StateWithin, state-within, meter-missing, meter-no-ramp, meter-bad, meter-taken}
 use Rattle.study.proofs.refuse.meter_number.Statement.{statement}
 use Rattle.study.proofs.refuse.meter_number.Tie as tie
 
@@ -21,8 +21,8 @@ is-sound c = sym (c .before .sound .ensures) ∙ not-false _ (c .if1 .left)
 there : (c : tie.Else2) → let a = start (c .before .before) .args in outside 1 (a .i) (sizeAt (a .words .now)) ≡ false
 there c = sym (c .before .segment-missing .ensures) ∙ c .if2 .left
 
-within : (c : tie.Else2) → let a = start (c .before .before) .args in RowWithin (a .words .now) (a .i)
-within c = row-within _ _ _ (is-sound (c .before .before)) (there c)
+within : (c : tie.Else2) → let a = start (c .before .before) .args in StateWithin (a .words .now) (a .i)
+within c = state-within _ _ _ (is-sound (c .before .before)) (there c)
 
 returns : tie.Need-returns
 returns c = unsound _ _ _ refl (sym (c .before .sound .ensures) ∙ not-true _ (c .if1 .taken))

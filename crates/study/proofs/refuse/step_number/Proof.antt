@@ -33,11 +33,11 @@ room : (c : tie.Else1) → 2576 + 7 * (16 * getD (start c .args .words .now) 1 0
 room c = omega (arith, laid _ _ (is-sound c) .room, size-word (start c .args .words .now))
 
 -- what the model's rows say, of the steps that stand at their word
-rows : (c : tie.After-step-number) →
+states : (c : tie.After-step-number) →
     let d = c .before .before .before .before in
     let a = start d .args in
     c .step-number .result ≡ stepNumberIn (netOf (a .words .now)) (stepsWord (a .words .now) (a .speeds .now) (a .arrivals .now)) (a .arrivals .now)
-rows c = let w = start (c .before .before .before .before) .args .words .now in rw (← size-word w) at (c .step-number .ensures)
+states c = let w = start (c .before .before .before .before) .args .words .now in rw (← size-word w) at (c .step-number .ensures)
 
 returns : tie.Need-returns
 returns c =
@@ -60,9 +60,9 @@ step-number-spec =
     (λ c. omega (arith, small (c .before .before)))
     (λ c. omega (arith, room (c .before .before .before)))
     (λ c κs. (omega (arith, small (c .before .before .before)), sym (size-word (start (c .before .before .before) .args .words .now))))
-    (λ c. let d = c .before .before .before .before .before in step-refused _ _ _ (is-sound d) (rows (c .before)) (c .if2 .taken))
+    (λ c. let d = c .before .before .before .before .before in step-refused _ _ _ (is-sound d) (states (c .before)) (c .if2 .taken))
     (λ c. omega (arith, room (c .before .before .before .before .before .before)))
     (λ c. let d = c .before .before .before .before .before .before .before in
-    runs-spent _ _ _ (is-sound d) (sym (rows (c .before .before .before)) ∙ c .before .before .if2 .left) (c .if3 .taken))
+    runs-spent _ _ _ (is-sound d) (sym (states (c .before .before .before)) ∙ c .before .before .if2 .left) (c .if3 .taken))
     (λ c. let d = c .before .before .before .before .before .before .before in
-    step-taken _ _ _ (is-sound d) (sym (rows (c .before .before .before)) ∙ c .before .before .if2 .left) (omega (arith, c .if3 .left))))
+    step-taken _ _ _ (is-sound d) (sym (states (c .before .before .before)) ∙ c .before .before .if2 .left) (omega (arith, c .if3 .left))))

@@ -1,0 +1,116 @@
+-- A sign and a setting change one state of the live case, and nothing else.
+use Prim.Native.Nat.{ℕ, _+_, _-_, _*_, _≤_, _<_}
+use mathlib.Core.Path.{_≡_, sym, ap, _∙_, subst}
+use mathlib.Core.List.{List}
+use native.Mathlib.Omega.{arith}
+use lib.IntN.{ℤ}
+use lib.ListN.{length, drop, getD, length-set}
+use lib.Ieee.{Float, nan}
+use Rattle.laws.specs.Lists.{part, putPart}
+use Rattle.laws.proofs.Lists.{getD-set, length-part}
+use Rattle.laws.proofs.Outside.{same-all, same-within}
+use Rattle.format.specs.Network.{segmentOf}
+use Rattle.metanet.specs.declared.SegmentState.{SegmentState}
+use Rattle.metanet.specs.Case.{Case, stateOf}
+use Rattle.metanet.specs.Words.{stateIn, caseIn}
+use Rattle.metanet.proofs.ReadBack.{state-take}
+use Rattle.metanet.proofs.SoundLaws.{state-read}
+use Rattle.metanet.specs.declared.Setting.{Setting}
+use Rattle.book.specs.Arrangement.{caseLength, caseWord, caseSpeed, networkAt, sizeAt, runCountAt, markAt, caseAt}
+use Rattle.book.specs.Calls.{sign, meter}
+use Rattle.metanet.specs.Change.{signedState, meteredState, withState}
+use Rattle.book.specs.Perform.{Arrays, stateWord, signedWords, meteredWords, storedWords, storedSpeeds}
+use Rattle.metanet.specs.Line.{signed}
+use Rattle.metanet.specs.Line.{metered, change}
+use Rattle.metanet.proofs.CaseParts.{state-put, state-put-same}
+use Rattle.book.proofs.Stored.{stored, Fit, Stored}
+use Rattle.book.proofs.Places.{case-stored}
+
+-- ---- the words of a state, read back
+
+module _ (w : List ℕ) (v : Float) (many : length w ≡ 16) where
+  state-signed : (limit : ℕ) (compliance : ℤ) → stateIn (signedWords limit compliance w) v ≡ signedState limit compliance (stateIn w v)
+  unfolding stateIn signedWords
+  state-signed limit compliance = simp (getD-set, length-set, many)
+
+  state-metered : (q : ℕ) (setting : Setting) → stateIn (meteredWords q setting w) v ≡ meteredState q setting (stateIn w v)
+  unfolding stateIn meteredWords
+  state-metered q setting = simp (getD-set, length-set, many)
+
+length-signed : (limit : ℕ) (compliance : ℤ) (w : List ℕ) → length (signedWords limit compliance w) ≡ length w
+unfolding signedWords
+length-signed limit compliance w = simp length-set
+
+length-metered : (q : ℕ) (setting : Setting) (w : List ℕ) → length (meteredWords q setting w) ≡ length w
+unfolding meteredWords
+length-metered q setting w = simp length-set
+
+-- ---- state i of the live case, counted from 1, with the words that change gives
+
+module _ (a : Arrays) (fit : Fit a) (i : ℕ) (low : 1 ≤ i) (high : i ≤ sizeAt (a .words)) where
+  abbrev n : ℕ
+  n = sizeAt (a .words)
+
+  abbrev old : List ℕ
+  old = part (stateWord i) 16 (a .words)
+
+  within : i - 1 < n
+  within = omega arith
+
+  room : 2576 + 16 * n ≤ length (a .words)
+  room = omega (arith, fit .words-fit)
+
+  there : stateWord i + 16 ≤ length (a .words)
+  there = omega (arith, room)
+
+  old-many : length old ≡ 16
+  old-many = length-part (a .words) (stateWord i) 16 there
+
+  module _ (ys : List ℕ) (f : SegmentState → SegmentState) (many : length ys ≡ 16) (is : (v : Float) → stateIn ys v ≡ f (stateIn old v)) where
+    abbrev new : Arrays
+    new = record { words = putPart (stateWord i) 16 ys (a .words); speeds = a .speeds }
+
+    -- the live case at place at, and its new state
+    abbrev caseFrom : ℕ → Case
+    caseFrom at = caseIn (a .words) (a .speeds) at (caseSpeed n 0) n
+
+    abbrev changed : ℕ → Case
+    changed at = withState (caseFrom at) (i - 1) (f (stateOf (caseFrom at .states) (i - 1)))
+
+    state-is : (v : Float) → stateIn ys v ≡ f (stateIn (drop (stateWord i) (a .words)) v)
+    state-is v = is v ∙ ap f (state-take (drop (stateWord i) (a .words)) v)
+
+    live-is : caseIn (new .words) (a .speeds) 2576 (caseSpeed n 0) n ≡ changed 2576
+    unfolding caseIn
+    live-is =
+        state-put (a .words) (a .speeds) 2576 (caseSpeed n 0) n (i - 1) ys within many room
+        ∙ ap (withState (caseFrom 2576) (i - 1))
+        (state-is (getD (a .speeds) (caseSpeed n 0 + (i - 1)) nan)
+        ∙ ap f (sym (state-read (a .words) (a .speeds) 2576 (caseSpeed n 0) n (i - 1) within)))
+
+    state-stored : Stored a new 0 (changed (caseWord n 0)) (runCountAt (a .words)) (markAt (a .words))
+    state-stored =
+        let first : 2576 ≡ caseWord n 0 = omega arith in
+        case-stored 0 (omega arith)
+        (same-within (state-put-same (a .words) (a .speeds) 2576 (caseSpeed n 0) n (i - 1) ys within many room)
+        (caseWord n 0) (caseWord n 0 + caseLength n) (omega arith) (omega arith))
+        (same-all (caseSpeed n 0) (caseSpeed n 0 + n) (a .speeds))
+        (changed (caseWord n 0))
+        (subst (λ (at : ℕ). caseIn (new .words) (a .speeds) at (caseSpeed n 0) n ≡ changed at) first live-is)
+
+  pub sign-stored : (limit : ℕ) (compliance : ℤ)
+      → Stored a (stored (sign i limit compliance) a) 0 (change (networkAt (a .words)) (caseAt (a .words) (a .speeds) 0) (signed i limit compliance))
+      (runCountAt (a .words)) (markAt (a .words))
+  unfolding storedWords storedSpeeds change
+  sign-stored limit compliance =
+      state-stored (signedWords limit compliance old) (signedState limit compliance) (length-signed limit compliance old ∙ old-many)
+      (λ v. state-signed old v old-many limit compliance)
+
+  pub meter-stored : (setting : Setting)
+      → Stored a (stored (meter i setting) a) 0 (change (networkAt (a .words)) (caseAt (a .words) (a .speeds) 0) (metered i setting))
+      (runCountAt (a .words)) (markAt (a .words))
+  unfolding storedWords storedSpeeds change
+  meter-stored setting =
+      let q = segmentOf (networkAt (a .words)) (i - 1) .most in
+      state-stored (meteredWords q setting old) (meteredState q setting) (length-metered q setting old ∙ old-many)
+      (λ v. state-metered old v old-many q setting)

@@ -1,0 +1,53 @@
+// All segments of a case, in place and in driving order: what segment i + 1 needs of segment i's old state is carried along.
+use crate::segment;
+use metanet::SegmentState;
+ghost use mathlib.Core.Path.{_≡_};
+ghost use lib.ListN.{length};
+ghost use Rattle.metanet.specs.Words.{steppedWords};
+ghost use Rattle.metanet.proofs.Ready.{Ready, Stepped};
+
+// Stores the figures that a step makes.
+fn store(w: &mut [u64], r: SegmentState)
+    requires { ⌜ length (now w) ≡ 16 ⌝ }
+    ensures { λ _. ⌜ now (w .exit) ≡ steppedWords (now (w .entry)) r ⌝ }
+{
+    w[0] = r.count;
+    w[1] = r.queue;
+    w[5] = r.rate;
+    w[10] = r.outflow;
+    w[11] = r.release;
+}
+
+// One step of the states that start at word at and of the speeds that start at from; gives what leaves.
+pub(crate) fn step_states(
+    words: &mut [u64],
+    speeds: &mut [f64],
+    arrivals: &[u32],
+    at: usize,
+    from: usize,
+    n: usize,
+    t: u64,
+) -> u64
+    requires { ⌜ Ready (now words) (now speeds) (now arrivals) at from n ⌝ }
+    ensures { λ r. ⌜ Stepped (now (words .entry)) (now (speeds .entry)) (now (arrivals .entry)) at from n t (now (words .exit)) (now (speeds .exit)) r ⌝ }
+{
+    let mut i: usize = 0;
+    let mut before = speeds[from];
+    let mut passed: u64 = 0;
+    let mut left: u64 = 0;
+    while i < n {
+        let a = at + 16 * i;
+        let e = a + 16;
+        let b = from + i;
+        let v = speeds[b];
+        let d = arrivals[i] as u64;
+        let r = segment::new_state_in(words, a, v, d, i, n, t, passed, before);
+        passed = segment::pass_on(words, i, r.outflow);
+        left = left + (r.outflow - passed);
+        store(&mut words[a..e], r);
+        speeds[b] = r.speed;
+        before = v;
+        i += 1;
+    }
+    left + passed
+}

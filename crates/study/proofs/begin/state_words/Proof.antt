@@ -1,0 +1,10 @@
+use Rattle.study.specs.Ready.{openWords}
+use Rattle.study.proofs.begin.state_words.Statement.{statement}
+use Rattle.study.proofs.begin.state_words.Tie as tie
+
+returns : tie.Need-returns
+unfolding openWords
+returns c = cc
+
+pub state-words-spec : {M : Type 1} → statement M
+state-words-spec = tie.close (tie.spec returns)

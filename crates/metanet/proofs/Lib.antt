@@ -19,3 +19,4 @@ pub mod SegmentLaws
 pub mod SoundLaws
 pub mod Statements
 pub mod Turns
+pub mod Worked

@@ -9,3 +9,4 @@ pub mod Report
 pub mod Words
 pub mod Sound
 pub mod Marked
+pub mod Worked

@@ -1,0 +1,45 @@
+-- The worked lists, computed: each step goes on from the case before it.
+use Prim.Native.Nat.{ℕ}
+use mathlib.Core.Path.{_≡_, refl, ap, _∙_}
+use mathlib.Core.List.{List, [], _∷_, _++_, map}
+use lib.Ieee.{add, sub, mul, div, lt, le, ofInt, toUnsigned, toBits}
+use Rattle.laws.specs.Sums.{sumOf}
+use Rattle.laws.specs.Lists.{table}
+use Rattle.format.specs.Network.{Network}
+use Rattle.metanet.specs.Case.{Case}
+use Rattle.metanet.specs.Speed.{keep, newSpeed}
+use Rattle.metanet.specs.Flow.{alineaRate}
+use Rattle.metanet.specs.Step.{signOf, rateOf, stepOn}
+use Rattle.metanet.specs.Start.{startState, startCase}
+use Rattle.metanet.specs.Line.{Line, change, caseOf}
+use Rattle.metanet.specs.Report.{caseFigures, segmentFigures}
+use Rattle.metanet.specs.Worked.{WorkedStep, WorkedHolds, written, allFigures, reported, startCaseOf, chain}
+
+-- ---- carried on from case to case
+
+carried : Network → Case → List WorkedStep → List (List (List ℕ))
+carried w c [] = []
+carried w c (k ∷ ks) = let d = caseOf w c (k .items) in allFigures w d ∷ carried w d ks
+
+-- the case of a line and more items is theirs from the line's case on
+caseOf-append : (w : Network) (s : Case) (l m : Line) → caseOf w s (l ++ m) ≡ caseOf w (caseOf w s l) m
+unfolding caseOf
+caseOf-append w s [] m = refl
+caseOf-append w s (i ∷ l) m = caseOf-append w (change w s i) l m
+
+reported-carried : (w : Network) (s : Case) (l : Line) (ks : List WorkedStep) → reported w s l ks ≡ carried w (caseOf w s l) ks
+unfolding reported carried
+reported-carried w s l [] = refl
+reported-carried w s l (k ∷ ks) =
+    let e = caseOf-append w s l (k .items) in
+    λ i. allFigures w (e i) ∷ (reported-carried w s (l ++ k .items) ks ∙ ap (λ (d : Case). carried w d ks) e) i
+
+-- ---- the chain
+
+chain-carried : carried (chain .network) (startCaseOf chain) (chain .steps) ≡ map written (chain .steps)
+unfolding carried chain startCase startState caseOf change caseFigures segmentFigures stepOn newSpeed keep signOf rateOf alineaRate table sumOf add sub mul div lt le ofInt toUnsigned toBits
+chain-carried = refl
+
+pub chain-holds : WorkedHolds chain
+unfolding caseOf
+chain-holds = reported-carried (chain .network) (startCaseOf chain) [] (chain .steps) ∙ chain-carried

@@ -13,7 +13,7 @@ use Rattle.metanet.specs.Step.{signOf, rateOf, stepOn}
 use Rattle.metanet.specs.Start.{startState, startCase}
 use Rattle.metanet.specs.Line.{Line, change, caseOf}
 use Rattle.metanet.specs.Report.{caseFigures, segmentFigures}
-use Rattle.metanet.specs.Worked.{WorkedStep, WorkedHolds, written, allFigures, reported, startCaseOf, chain}
+use Rattle.metanet.specs.Worked.{WorkedStep, WorkedHolds, givenFigures, allFigures, figuresAlong, startCaseOf, chain}
 
 -- ---- carried on from case to case
 
@@ -27,19 +27,19 @@ unfolding caseOf
 caseOf-append w s [] m = refl
 caseOf-append w s (i ∷ l) m = caseOf-append w (change w s i) l m
 
-reported-carried : (w : Network) (s : Case) (l : Line) (ks : List WorkedStep) → reported w s l ks ≡ carried w (caseOf w s l) ks
-unfolding reported carried
-reported-carried w s l [] = refl
-reported-carried w s l (k ∷ ks) =
+along-carried : (w : Network) (s : Case) (l : Line) (ks : List WorkedStep) → figuresAlong w s l ks ≡ carried w (caseOf w s l) ks
+unfolding figuresAlong carried
+along-carried w s l [] = refl
+along-carried w s l (k ∷ ks) =
     let e = caseOf-append w s l (k .items) in
-    λ i. allFigures w (e i) ∷ (reported-carried w s (l ++ k .items) ks ∙ ap (λ (d : Case). carried w d ks) e) i
+    λ i. allFigures w (e i) ∷ (along-carried w s (l ++ k .items) ks ∙ ap (λ (d : Case). carried w d ks) e) i
 
 -- ---- the chain
 
-chain-carried : carried (chain .network) (startCaseOf chain) (chain .steps) ≡ map written (chain .steps)
+chain-carried : carried (chain .network) (startCaseOf chain) (chain .steps) ≡ map givenFigures (chain .steps)
 unfolding carried chain startCase startState caseOf change caseFigures segmentFigures stepOn newSpeed keep signOf rateOf alineaRate table sumOf add sub mul div lt le ofInt toUnsigned toBits
 chain-carried = refl
 
 pub chain-holds : WorkedHolds chain
 unfolding caseOf
-chain-holds = reported-carried (chain .network) (startCaseOf chain) [] (chain .steps) ∙ chain-carried
+chain-holds = along-carried (chain .network) (startCaseOf chain) [] (chain .steps) ∙ chain-carried

@@ -30,25 +30,25 @@ pub record WorkedList : Type 0 where
   pub queues : List ℕ
   pub steps : List WorkedStep
 
--- the figures that are written after a step: the totals, then each segment's
-abbrev pub written : WorkedStep → List (List ℕ)
-written k = k .totals ∷ k .segments
+-- the figures that the list gives after a step: the totals, then each segment's
+abbrev pub givenFigures : WorkedStep → List (List ℕ)
+givenFigures k = k .totals ∷ k .segments
 
 -- the figures of a case, in that order
 abbrev pub allFigures : Network → Case → List (List ℕ)
 allFigures w c = caseFigures w c ∷ table (segmentFigures w c) (w .head .size)
 
 -- after each step those of the case of the line so far; line is what came before
-unfoldable pub reported : Network → Case → Line → List WorkedStep → List (List (List ℕ))
-reported w begun line [] = []
-reported w begun line (k ∷ ks) = allFigures w (caseOf w begun (line ++ k .items)) ∷ reported w begun (line ++ k .items) ks
+unfoldable pub figuresAlong : Network → Case → Line → List WorkedStep → List (List (List ℕ))
+figuresAlong w begun line [] = []
+figuresAlong w begun line (k ∷ ks) = allFigures w (caseOf w begun (line ++ k .items)) ∷ figuresAlong w begun (line ++ k .items) ks
 
 abbrev pub startCaseOf : WorkedList → Case
 startCaseOf l = startCase (l .network) (l .mvs) (l .speeds) (l .queues)
 
--- after each step of the list they are the written ones
+-- after each step of the list they are those that the list gives
 abbrev pub WorkedHolds : WorkedList → Type 0
-WorkedHolds l = reported (l .network) (startCaseOf l) [] (l .steps) ≡ map written (l .steps)
+WorkedHolds l = figuresAlong (l .network) (startCaseOf l) [] (l .steps) ≡ map givenFigures (l .steps)
 
 -- ---- a chain of three segments: T 10, τ 18, ν 60, κ 40, δ 122; one curve, entry j is 100,000 − 450 j
 

@@ -20,3 +20,5 @@ pub mod Stored
 pub mod Storing
 pub mod Views
 pub mod WriteBack
+pub mod Begun
+pub mod Worked

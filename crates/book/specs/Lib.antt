@@ -8,3 +8,4 @@ pub mod Book
 pub mod Claim
 pub mod Agreed
 pub mod Example
+pub mod Worked

@@ -1,0 +1,47 @@
+-- A list of calls that begins with a Start on the file of a network: its answers on arrays that are long enough are the book's.
+use Prim.Native.Nat.{ℕ, _≤_}
+use mathlib.Core.Path.{_≡_, refl, ap, _∙_}
+use mathlib.Core.Bool.{false, _||_}
+use mathlib.Core.List.{List, _∷_}
+use lib.Dec.{ltb}
+use lib.ListN.{length}
+use borrow.Author.Tests.{le-ltb}
+use Rattle.laws.specs.First.{row}
+use Rattle.laws.proofs.First.{row-skipped, first-zero}
+use Rattle.format.specs.Network.{Network, networkNumber, Formed}
+use Rattle.format.specs.File.{networkOf}
+use Rattle.format.specs.Written.{fileOf}
+use Rattle.format.proofs.Reading.{read-back, file-accepted-of}
+use Rattle.metanet.specs.Start.{startCase, startNumber}
+use Rattle.book.specs.Arrangement.{wordsFor, speedsFor}
+use Rattle.book.specs.Calls.{Call, start, accepted}
+use Rattle.book.specs.Refusal.{refusal}
+use Rattle.book.specs.Perform.{Arrays, refusalAt}
+use Rattle.book.specs.Book.{Book, started}
+use Rattle.book.specs.Claim.{answers, bookAnswers}
+use Rattle.book.proofs.Demand3.{demand-3, begin-entered}
+
+module _ (w : Network) (within : networkNumber w ≡ 0) (formed : Formed w) (mvs speeds queues : List ℕ) (taken : startNumber w mvs speeds queues ≡ 0) where
+  network-is : networkOf (fileOf w) ≡ w
+  network-is = read-back w within formed
+
+  module _ (a : Arrays) (many : wordsFor (w .head .size) ≤ length (a .words)) (speeds-many : speedsFor (w .head .size) ≤ length (a .speeds)) where
+    room : (ltb (length (a .words)) (wordsFor (w .head .size)) || ltb (length (a .speeds)) (speedsFor (w .head .size))) ≡ false
+    room = λ i. le-ltb (length (a .words)) (wordsFor (w .head .size)) many i || le-ltb (length (a .speeds)) (speedsFor (w .head .size)) speeds-many i
+
+    start-taken : refusalAt (start (fileOf w) mvs speeds queues) a ≡ 0
+    unfolding refusalAt refusal row
+    start-taken =
+        first-zero _ _ (file-accepted-of w within)
+        ∙ ap (λ (x : Network). row (ltb (length (a .words)) (wordsFor (x .head .size)) || ltb (length (a .speeds)) (speedsFor (x .head .size))) 11 (startNumber x mvs speeds queues)) network-is
+        ∙ row-skipped _ _ _ room
+        ∙ taken
+
+    pub begun-answers : (cs : List Call)
+        → answers (start (fileOf w) mvs speeds queues ∷ cs) a
+        ≡ accepted ∷ bookAnswers (length (a .words)) (length (a .speeds)) cs (started w (startCase w mvs speeds queues))
+    unfolding bookAnswers
+    begun-answers cs =
+        let b : Book = started w (startCase w mvs speeds queues) in
+        demand-3 (fileOf w) mvs speeds queues cs a b start-taken .same-answers
+        ∙ (rw (begin-entered (fileOf w) mvs speeds queues a start-taken b, network-is) refl)

@@ -23,12 +23,12 @@ itemCall (metered i setting) = meter i setting
 itemCall (stepped arrivals) = step arrivals
 
 -- of a case of n segments: its totals, then each segment's figures
-abbrev pub reports : ℕ → List Call
-reports n = report 0 ∷ table (λ i. reportSegment 0 (i + 1)) n
+abbrev pub liveReports : ℕ → List Call
+liveReports n = report 0 ∷ table (λ i. reportSegment 0 (i + 1)) n
 
 unfoldable pub workedCalls : ℕ → List WorkedStep → List Call
 workedCalls n [] = []
-workedCalls n (k ∷ ks) = map itemCall (k .items) ++ (reports n ++ workedCalls n ks)
+workedCalls n (k ∷ ks) = map itemCall (k .items) ++ (liveReports n ++ workedCalls n ks)
 
 -- ---- their answers: every item is accepted, and the reports give the figures of the list
 

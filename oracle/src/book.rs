@@ -6,6 +6,7 @@
 
 mod calls;
 mod line;
+mod questions;
 mod report;
 pub(crate) mod rows;
 
@@ -14,6 +15,7 @@ use crate::file;
 use crate::network::Network;
 pub use calls::{Answer, Call, Lengths, Start};
 pub use line::{Item, Line};
+pub use questions::Question;
 pub use report::{CaseReport, SegmentReport};
 
 /// Slots for held cases.
@@ -60,8 +62,9 @@ impl Book {
             Call::Hold { slot } => self.hold(slot)?,
             Call::Recall { slot } => self.recall(slot)?,
             Call::Drop { slot } => self.drop_slot(slot)?,
-            Call::ReportCase { case } => return self.report_case(case),
-            Call::ReportSegment { case, segment } => return self.report_segment(case, segment),
+            Call::Question { case, question } => {
+                return question.answer(&self.network, self.line(case)?.case())
+            }
             Call::ReportRuns => return Ok(Answer::Runs(self.runs)),
         }
         Ok(Answer::Done)
@@ -131,18 +134,6 @@ impl Book {
         let (place, _) = rows::judge_filled(&self.slots, slot)?;
         self.slots[place] = None;
         Ok(())
-    }
-
-    fn report_case(&self, case: u64) -> Result<Answer, u8> {
-        let line = self.line(case)?;
-        Ok(Answer::Case(CaseReport::of(line.case())))
-    }
-
-    fn report_segment(&self, case: u64, segment: u64) -> Result<Answer, u8> {
-        let line = self.line(case)?;
-        let place = rows::judge_segment(&self.network, segment)?;
-        let state = &line.case().segments[place];
-        Ok(Answer::Segment(SegmentReport::of(state)))
     }
 
     /// The line of case 0 (live) or 1..6.

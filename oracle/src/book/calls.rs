@@ -1,6 +1,6 @@
 //! The calls on a study and their answers.
 
-use super::{CaseReport, SegmentReport};
+use super::{CaseReport, Question, SegmentReport};
 use crate::case::Setting;
 
 /// Lengths of the two arrays that the caller lends.
@@ -52,12 +52,9 @@ pub enum Call<'a> {
     Drop {
         slot: u64,
     },
-    ReportCase {
+    Question {
         case: u64,
-    },
-    ReportSegment {
-        case: u64,
-        segment: u64,
+        question: &'a Question,
     },
     ReportRuns,
 }
@@ -71,4 +68,16 @@ pub enum Answer {
     Segment(SegmentReport),
     /// Accepted steps since Start.
     Runs(u64),
+}
+
+impl Answer {
+    /// Hands over the figures in the paper's order.
+    pub fn with_figures<Taken>(&self, take: impl FnOnce(&[u64]) -> Taken) -> Taken {
+        match self {
+            Answer::Done => take(&[]),
+            Answer::Case(report) => take(&report.figures()),
+            Answer::Segment(report) => take(&report.figures()),
+            Answer::Runs(runs) => take(&[*runs]),
+        }
+    }
 }

@@ -25,6 +25,17 @@ impl CaseReport {
             time: case.time,
         }
     }
+
+    pub fn figures(&self) -> [u64; 6] {
+        [
+            self.steps,
+            self.in_segments,
+            self.in_queues,
+            self.arrivals,
+            self.exits,
+            self.time,
+        ]
+    }
 }
 
 /// Report of one segment of a case.
@@ -55,5 +66,17 @@ impl SegmentReport {
             last_release: state.last_release,
             rate: state.rate,
         }
+    }
+
+    pub fn figures(&self) -> [u64; 7] {
+        [
+            self.count,
+            self.whole_speed,
+            self.speed_bits,
+            self.queue,
+            self.last_outflow,
+            self.last_release,
+            self.rate,
+        ]
     }
 }

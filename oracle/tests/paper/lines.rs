@@ -1,21 +1,21 @@
 //! What accepted calls do: lines, slots, run count and reports.
 
 use crate::networks;
-use crate::study::{book, meter, number, sign, step};
+use crate::study::{ask, book, meter, number, sign, step};
 use crate::study::{ALINEA, COUNTS, QUEUES, SPEEDS};
-use oracle::book::{Answer, Book, Call, CaseReport, SegmentReport, Start, SLOTS};
+use oracle::book::{Answer, Book, Call, CaseReport, Question, SegmentReport, Start, SLOTS};
 use oracle::case::{Setting, Sign};
 use oracle::file;
 
 fn case_report(book: &mut Book, case: u64) -> CaseReport {
-    match book.call(&Call::ReportCase { case }) {
+    match book.call(&ask(case, &Question::Case)) {
         Ok(Answer::Case(report)) => report,
         other => panic!("no report of case {case}: {other:?}"),
     }
 }
 
 fn segment_report(book: &mut Book, case: u64, segment: u64) -> SegmentReport {
-    match book.call(&Call::ReportSegment { case, segment }) {
+    match book.call(&ask(case, &Question::Segment(segment))) {
         Ok(Answer::Segment(report)) => report,
         other => panic!("no report of segment {segment}: {other:?}"),
     }

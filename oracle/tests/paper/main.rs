@@ -11,3 +11,4 @@ mod sound;
 mod step;
 mod step_in_arrays;
 mod study;
+mod worked;

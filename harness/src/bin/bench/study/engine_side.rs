@@ -39,12 +39,16 @@ pub fn report_segment(lent: &mut Lent) -> u64 {
 
 pub fn hold_recall_drop(lent: &mut Lent) -> u64 {
     let slot = black_box(SLOTS as u64);
-    let calls: [fn(&mut [u64], &mut [f64], u64) -> u64; 3] = match lent.arguments.case {
-        0 => [study_hold, study_recall, study_drop],
-        _ => [study_drop, study_hold, study_recall],
+    let (words, speeds) = (&mut lent.words, &mut lent.speeds);
+    let dropped = match lent.arguments.case {
+        0 => 0,
+        _ => study_drop(words, speeds, slot),
     };
-    let mut ask = |call: &fn(&mut [u64], &mut [f64], u64) -> u64| {
-        call(&mut lent.words, &mut lent.speeds, slot)
+    let held = study_hold(words, speeds, slot);
+    let recalled = study_recall(words, speeds, slot);
+    let last = match lent.arguments.case {
+        0 => study_drop(words, speeds, slot),
+        _ => 0,
     };
-    calls.iter().map(&mut ask).sum()
+    dropped + held + recalled + last
 }

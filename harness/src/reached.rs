@@ -3,8 +3,8 @@
 use crate::engine::Function;
 use std::sync::atomic::{AtomicU64, Ordering};
 
-/// One more than the highest number.
-const NUMBERS: usize = 25;
+/// More numbers than the papers have.
+const NUMBERS: usize = 64;
 
 /// How often each function, in the order of the table, answered each number.
 static COUNTS: [[AtomicU64; NUMBERS]; Function::ALL.len()] =

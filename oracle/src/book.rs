@@ -7,16 +7,14 @@
 mod calls;
 mod line;
 mod questions;
-mod report;
 pub(crate) mod rows;
 
 use crate::case::{Case, Setting, Sign};
 use crate::file;
 use crate::network::Network;
-pub use calls::{Answer, Call, Lengths, Start};
+pub use calls::{Call, Figures, Lengths, Start};
 pub use line::{Item, Line};
 pub use questions::Question;
-pub use report::{CaseReport, SegmentReport};
 
 /// Slots for held cases.
 pub const SLOTS: usize = 6;
@@ -49,7 +47,7 @@ impl Book {
     }
 
     /// Takes one call. A refused call changes nothing.
-    pub fn call(&mut self, call: &Call) -> Result<Answer, u8> {
+    pub fn call(&mut self, call: &Call) -> Result<Figures, u8> {
         match *call {
             Call::Start(start) => *self = Book::start(self.lengths, &start)?,
             Call::Sign {
@@ -65,9 +63,9 @@ impl Book {
             Call::Question { case, question } => {
                 return question.answer(&self.network, self.line(case)?.case())
             }
-            Call::ReportRuns => return Ok(Answer::Runs(self.runs)),
+            Call::RunCount => return Ok(vec![self.runs]),
         }
-        Ok(Answer::Done)
+        Ok(Figures::new())
     }
 
     pub fn network(&self) -> &Network {

@@ -1,6 +1,6 @@
 //! The calls on a study and their answers.
 
-use super::{CaseReport, Question, SegmentReport};
+use super::Question;
 use crate::case::Setting;
 
 /// Lengths of the two arrays that the caller lends.
@@ -56,28 +56,10 @@ pub enum Call<'a> {
         case: u64,
         question: &'a Question,
     },
-    ReportRuns,
-}
-
-/// What an accepted call gives.
-#[derive(Clone, Debug, PartialEq)]
-pub enum Answer {
-    /// The call gives no figures.
-    Done,
-    Case(CaseReport),
-    Segment(SegmentReport),
     /// Accepted steps since Start.
-    Runs(u64),
+    RunCount,
 }
 
-impl Answer {
-    /// Hands over the figures in the paper's order.
-    pub fn with_figures<Taken>(&self, take: impl FnOnce(&[u64]) -> Taken) -> Taken {
-        match self {
-            Answer::Done => take(&[]),
-            Answer::Case(report) => take(&report.figures()),
-            Answer::Segment(report) => take(&report.figures()),
-            Answer::Runs(runs) => take(&[*runs]),
-        }
-    }
-}
+/// What an accepted call gives: figures in the paper's order, none where it
+/// only changes the study.
+pub type Figures = Vec<u64>;

@@ -2,8 +2,8 @@
 //! arrays answer them alike.
 
 use super::rows::judge_segment;
-use super::{Answer, CaseReport, SegmentReport};
-use crate::case::Case;
+use super::Figures;
+use crate::case::{Case, SegmentState};
 use crate::network::Network;
 
 /// What is asked, with all arguments but the number of the case.
@@ -17,14 +17,38 @@ pub enum Question {
 
 impl Question {
     /// The answer, or the first row that applies after 12, 21 and 23.
-    pub fn answer(&self, network: &Network, case: &Case) -> Result<Answer, u8> {
+    pub fn answer(&self, network: &Network, case: &Case) -> Result<Figures, u8> {
         match *self {
-            Question::Case => Ok(Answer::Case(CaseReport::of(case))),
+            Question::Case => Ok(case_figures(case).into()),
             Question::Segment(segment) => {
                 let place = judge_segment(network, segment)?;
-                let report = SegmentReport::of(&case.segments[place]);
-                Ok(Answer::Segment(report))
+                Ok(segment_figures(&case.segments[place]).into())
             }
         }
     }
+}
+
+/// Steps, mv in segments, in queues, arrivals, exits, time in mv·s.
+fn case_figures(case: &Case) -> [u64; 6] {
+    [
+        case.steps,
+        case.in_segments(),
+        case.in_queues(),
+        case.arrivals,
+        case.exits,
+        case.time,
+    ]
+}
+
+/// N, s, bits of v, w, last outflow, last release, R.
+fn segment_figures(state: &SegmentState) -> [u64; 7] {
+    [
+        state.count,
+        state.speed as u64,
+        state.speed.to_bits(),
+        state.queue,
+        state.last_outflow,
+        state.last_release,
+        state.rate,
+    ]
 }

@@ -2,7 +2,7 @@
 
 use super::places::{mark_at, Places, ARRANGEMENT_AT, MARKS_WORDS, RUNS_AT};
 use super::{judge, Judged, ARRANGEMENT};
-use crate::book::{rows, Answer, Call, Lengths, Start};
+use crate::book::{rows, Call, Figures, Lengths, Start};
 use crate::case::{Case, Setting, Sign};
 use crate::file;
 use crate::step::step;
@@ -10,7 +10,7 @@ use crate::stored;
 use crate::stored_case;
 
 /// Takes one call. A refused call changes nothing.
-pub fn call(words: &mut [u64], speeds: &mut [f64], call: &Call) -> Result<Answer, u8> {
+pub fn call(words: &mut [u64], speeds: &mut [f64], call: &Call) -> Result<Figures, u8> {
     if let Call::Start(begin) = call {
         return start(words, speeds, begin);
     }
@@ -36,14 +36,14 @@ pub fn call(words: &mut [u64], speeds: &mut [f64], call: &Call) -> Result<Answer
             let case = arrays.case(case)?;
             return question.answer(&arrays.study.network, &case);
         }
-        Call::ReportRuns => return Ok(Answer::Runs(arrays.study.runs)),
+        Call::RunCount => return Ok(vec![arrays.study.runs]),
     }
-    Ok(Answer::Done)
+    Ok(Figures::new())
 }
 
 /// Start stores network, run count, marks, arrangement number and live case;
 /// their free words become 0. The slots' words and speeds stay.
-fn start(words: &mut [u64], speeds: &mut [f64], start: &Start) -> Result<Answer, u8> {
+fn start(words: &mut [u64], speeds: &mut [f64], start: &Start) -> Result<Figures, u8> {
     let lengths = Lengths {
         words: words.len(),
         speeds: speeds.len(),
@@ -57,7 +57,7 @@ fn start(words: &mut [u64], speeds: &mut [f64], start: &Start) -> Result<Answer,
     words[ARRANGEMENT_AT] = ARRANGEMENT;
     let own_speeds = &mut speeds[places.case_speeds(0)];
     stored_case::put(&case, &mut words[places.case_words(0)], own_speeds);
-    Ok(Answer::Done)
+    Ok(Figures::new())
 }
 
 /// The arrays of a sound study.

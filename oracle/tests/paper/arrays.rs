@@ -4,7 +4,7 @@ use crate::lent::{Lent, FREE, FREE_SPEED};
 use crate::lines::{random, with_call};
 use crate::networks;
 use crate::study::{ask, book, step};
-use oracle::book::{Answer, Call, CaseReport, Question};
+use oracle::book::{Call, Question};
 use oracle::file;
 use oracle::study::{self, Study};
 
@@ -61,22 +61,10 @@ fn the_listing() {
         ([0], [2, 10_556, 0, 4_000, 18_444, 440_000]),
     ] {
         assert_eq!(lent.number(&step(&arrivals)), 0);
-        let [steps, in_segments, in_queues, arrivals, exits, time] = listed;
-        let expected = CaseReport {
-            steps,
-            in_segments,
-            in_queues,
-            arrivals,
-            exits,
-            time,
-        };
         let report = lent.call(&ask(0, &Question::Case));
-        assert_eq!(report, Ok(Answer::Case(expected)));
-        report
-            .unwrap()
-            .with_figures(|figures| assert_eq!(figures, listed));
+        assert_eq!(report, Ok(listed.into()));
     }
-    assert_eq!(lent.call(&Call::ReportRuns), Ok(Answer::Runs(2)));
+    assert_eq!(lent.call(&Call::RunCount), Ok(vec![2]));
 }
 
 /// Hold copies every word and speed of the live case and changes one mark,

@@ -2,7 +2,7 @@
 
 use crate::networks;
 use crate::study::{COUNTS, QUEUES, ROOM, SPEEDS};
-use oracle::book::{Answer, Call, Start};
+use oracle::book::{Call, Figures, Start};
 use oracle::file;
 use oracle::network::Network;
 use oracle::study;
@@ -58,7 +58,7 @@ impl Lent {
         self.number(&Call::Step { arrivals })
     }
 
-    pub fn call(&mut self, call: &Call) -> Result<Answer, u8> {
+    pub fn call(&mut self, call: &Call) -> Result<Figures, u8> {
         study::call(&mut self.words, &mut self.speeds, call)
     }
 

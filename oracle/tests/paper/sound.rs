@@ -123,7 +123,7 @@ fn twelve_before_all_others() {
         Call::Drop { slot: 0 },
         ask(7, &Question::Case),
         ask(7, &Question::Segment(0)),
-        Call::ReportRuns,
+        Call::RunCount,
     ];
     for call in calls {
         assert_eq!(lent.number(&call), 12);

@@ -4,7 +4,7 @@
 
 use crate::lent::Lent;
 use crate::study::{ask, start, ROOM};
-use oracle::book::{Call, Question};
+use oracle::book::{Call, Figures, Question};
 use oracle::case::{Alinea, Setting};
 use oracle::network::{Network, Segment};
 
@@ -112,10 +112,7 @@ fn the_worked_list_in_the_book() {
     let lists: [&[u64]; 3] = [&MVS, &INITIAL_SPEEDS, &QUEUES];
     let mut book = start(&network(), ROOM, lists).expect("a good start");
     for worked in &LIST {
-        worked.take(|call| {
-            let answer = book.call(call).expect("an accepted call");
-            answer.with_figures(<[u64]>::to_vec)
-        });
+        worked.take(|call| book.call(call));
     }
 }
 
@@ -124,25 +121,22 @@ fn the_worked_list_in_arrays() {
     let mut lent = Lent::free();
     assert_eq!(lent.start(&network(), [&MVS, &INITIAL_SPEEDS, &QUEUES]), 0);
     for worked in &LIST {
-        worked.take(|call| {
-            let answer = lent.call(call).expect("an accepted call");
-            answer.with_figures(<[u64]>::to_vec)
-        });
+        worked.take(|call| lent.call(call));
     }
     lent.assert_past();
 }
 
 impl Worked {
-    /// Makes the calls; `call` gives the figures of each.
-    fn take(&self, mut call: impl FnMut(&Call) -> Vec<u64>) {
+    /// Makes the step, and asks for every figure.
+    fn take(&self, mut call: impl FnMut(&Call) -> Result<Figures, u8>) {
         let arrivals = &self.arrivals;
         for item in self.set.iter().chain([&Call::Step { arrivals }]) {
-            assert_eq!(call(item), []);
+            assert_eq!(call(item), Ok(vec![]));
         }
-        assert_eq!(call(&ask(0, &Question::Case)), self.case);
-        for (segment, expected) in (1..).zip(self.segments) {
+        assert_eq!(call(&ask(0, &Question::Case)), Ok(self.case.into()));
+        for (segment, figures) in (1..).zip(self.segments) {
             let report = Question::Segment(segment);
-            assert_eq!(call(&ask(0, &report)), expected, "segment {segment}");
+            assert_eq!(call(&ask(0, &report)), Ok(figures.into()));
         }
     }
 }

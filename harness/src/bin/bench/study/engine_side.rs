@@ -40,15 +40,14 @@ pub fn report_segment(lent: &mut Lent) -> u64 {
 pub fn hold_recall_drop(lent: &mut Lent) -> u64 {
     let slot = black_box(SLOTS as u64);
     let (words, speeds) = (&mut lent.words, &mut lent.speeds);
-    let dropped = match lent.arguments.case {
-        0 => 0,
-        _ => study_drop(words, speeds, slot),
-    };
-    let held = study_hold(words, speeds, slot);
-    let recalled = study_recall(words, speeds, slot);
-    let last = match lent.arguments.case {
-        0 => study_drop(words, speeds, slot),
-        _ => 0,
-    };
-    dropped + held + recalled + last
+    match lent.arguments.case {
+        0 => {
+            let held = study_hold(words, speeds, slot);
+            held + study_recall(words, speeds, slot) + study_drop(words, speeds, slot)
+        }
+        _ => {
+            let dropped = study_drop(words, speeds, slot);
+            dropped + study_hold(words, speeds, slot) + study_recall(words, speeds, slot)
+        }
+    }
 }

@@ -1,7 +1,7 @@
 //! The same calls asked of the oracle, on arrays of the same content.
 
 use super::lent::Lent;
-use oracle::book::{Answer, Call, Question, Start, SLOTS};
+use oracle::book::{Call, Figures, Question, Start, SLOTS};
 use oracle::study;
 use std::hint::black_box;
 
@@ -46,7 +46,7 @@ pub fn hold_recall_drop(lent: &mut Lent) -> u64 {
     calls.iter().map(&mut ask).sum()
 }
 
-fn number(result: Result<Answer, u8>) -> u64 {
+fn number(result: Result<Figures, u8>) -> u64 {
     result.err().map_or(0, u64::from)
 }
 
@@ -55,8 +55,8 @@ fn report_of(lent: &mut Lent, question: &Question) -> u64 {
     let case = black_box(lent.arguments.case);
     let call = Call::Question { case, question };
     let result = study::call(&mut lent.words, &mut lent.speeds, &call);
-    if let Ok(answer) = &result {
-        answer.with_figures(|figures| lent.figures[..figures.len()].copy_from_slice(figures));
+    if let Ok(figures) = &result {
+        lent.figures[..figures.len()].copy_from_slice(figures);
     }
     number(result)
 }

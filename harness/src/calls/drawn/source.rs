@@ -1,5 +1,5 @@
-//! Where the arguments of a call come from: they suit a study, some of them
-//! but for one thing, or they are any numbers.
+//! Where the arguments of a call come from: all of them suit a study, all but
+//! one or some do, or they are any numbers.
 
 use crate::damages::outside;
 use crate::random::Random;

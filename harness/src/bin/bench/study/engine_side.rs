@@ -42,12 +42,14 @@ pub fn hold_recall_drop(lent: &mut Lent) -> u64 {
     let (words, speeds) = (&mut lent.words, &mut lent.speeds);
     match lent.arguments.case {
         0 => {
-            let held = study_hold(words, speeds, slot);
-            held + study_recall(words, speeds, slot) + study_drop(words, speeds, slot)
+            study_hold(words, speeds, slot)
+                + study_recall(words, speeds, slot)
+                + study_drop(words, speeds, slot)
         }
         _ => {
-            let dropped = study_drop(words, speeds, slot);
-            dropped + study_hold(words, speeds, slot) + study_recall(words, speeds, slot)
+            study_drop(words, speeds, slot)
+                + study_hold(words, speeds, slot)
+                + study_recall(words, speeds, slot)
         }
     }
 }

@@ -1,10 +1,15 @@
 /* The freeway study engine, for C.
  *
- * Every function answers a number: 0, or the number of the first refusal that applies; docs/REFUSALS.md says each in
- * words. A refused call leaves every lent array exactly as it came. A list is lent as a pointer and its length in
- * elements; a length of 0 may come with any pointer that is not null. Arrays lent to one call must not overlap. The
- * functions keep nothing: several threads can call them at once as long as no two calls share a lent array that one of
- * them writes.
+ * Every function answers a number: 0 where the call is accepted, else the number of the first refusal that applies;
+ * docs/REFUSALS.md says each in words. A refused call leaves every lent array exactly as it came.
+ * 24 comes after all other refusals: the room lent for an answer is too short. These have it: network_curve,
+ * network_place, study_report, study_report_segment, study_run_count and study_write. In study_write it is a refusal of
+ * document 01, in the others it is this interface's own.
+ * network_place answers 0 of a refused file too, and puts the file's number into place[0].
+ *
+ * A list is lent as a pointer and its length in elements; a length of 0 may come with any pointer that is not null.
+ * Arrays lent to one call must not overlap. The functions keep nothing: several threads can call them at once as long
+ * as no two calls share a lent array that one of them writes.
  */
 #ifndef ENGINE_H
 #define ENGINE_H
@@ -22,51 +27,43 @@ uint64_t network_check(const uint8_t *file, size_t file_len);
 /* Curve number curve, from 0: the file's number, then 10 where there is no such curve, or 0. */
 uint64_t network_curve_number(const uint8_t *file, size_t file_len, uint64_t curve);
 
-/* The file's own bytes of a curve: place[0] becomes their byte offset, place[1] how many they are, 804. The answer is
- * that of network_curve_number, then 24 where place_len is below 2; where it is not 0, place stays as it came. Words of
- * place from the third on stay. */
+/* The file's own bytes of a curve: place[0] becomes their byte offset, place[1] how many they are, 804; later words
+ * stay. The answer is that of network_curve_number, then 24 where place_len is below 2. */
 uint64_t network_curve(const uint8_t *file, size_t file_len, uint64_t curve, uint64_t *place, size_t place_len);
 
-/* Where a file is wrong: place[0] becomes its number, or 0 where it is accepted; place[1] the curve (6) or the record (7, 8),
- * place[2] the entry (6) or the broken rule of the row (4, 7; docs/REFUSALS.md lists them), both from 0; place[3] the
- * byte offset. The answer is 24 where place_len is below 4, with place as it came, or 0. */
+/* Where a file is wrong: place[0] becomes its number, or 0 where it is accepted; place[1] the curve (6) or the record
+ * (7, 8), place[2] the entry (6) or the broken rule of the row (4, 7; docs/REFUSALS.md lists them), both from 0;
+ * place[3] the byte offset; later words stay. The answer is 24 where place_len is below 4, or 0. */
 uint64_t network_place(const uint8_t *file, size_t file_len, uint64_t *place, size_t place_len);
-
-/* The network kept in words (docs/ARRANGEMENT.md) as a file, from out[0] on; later bytes stay. It judges these words
- * alone, and no study around them: 11 where there are fewer than 2,560 words; 4, 6, 7 or 8 where what they keep is out
- * of range; 24 where out is shorter than the file. */
-uint64_t network_write(const uint64_t *kept, size_t kept_len, uint8_t *out, size_t out_len);
-
-/* One step of a network and one case that stand alone in the arrays (docs/ARRANGEMENT.md): the network in the first
- * 2,560 words, the case's rows and totals after it, its speeds from speeds[0] on. 12 where the arrays are too short, the
- * network is out of range or the case is not sound; 13 where arrivals_len is not the number of segments; 15 for an
- * arrival out of range; 16 where the case has taken 20,000 steps; 0 where the step was made. The network, signs,
- * settings, free words and all that is past the case stay. */
-uint64_t case_step(uint64_t *words, size_t words_len, double *speeds, size_t speeds_len, const uint32_t *arrivals,
-                   size_t arrivals_len);
 
 /* ---- A study
  *
- * The caller lends two arrays, words and speeds, and lends the same two to every later call: at least
- * 2,576 + 7 * (16 n + 8) words and 7 n speeds for n segments. What stands in them is docs/ARRANGEMENT.md's; words and
- * speeds past these lengths are never changed. Segments count from 1. Case 0 is the live case, 1 to 6 are the slots.
- * Every call but study_start first answers 12 where the arrays do not hold a sound study. */
+ * The caller lends two arrays, words and speeds, and lends the same two to every later call: for n segments at least
+ * 2,576 + 7 * (16 n + 8) words and 7 n speeds. What stands in them is docs/ARRANGEMENT.md's; words and speeds past
+ * these lengths are never changed. Segments count from 1. Case 0 is the live case, 1 to 6 are the slots. Every call
+ * but study_start first answers 12 where the arrays do not hold a sound study; one of another arrangement is not sound.
+ *
+ * Signs, settings, R and the count of steps belong to the case, so that study_hold and study_recall carry them. To be
+ * able to come back to the start case, hold it before the first variant: study_hold right after study_start. */
 
 /* 12 where the arrays do not hold a sound study, or 0. */
 uint64_t study_sound(const uint64_t *words, size_t words_len, const double *speeds, size_t speeds_len);
 
-/* Begins a study on a network file: for each segment initial mv, speed in whole m/h and queue in mv. All ramps are open,
- * signs dark, slots empty. The file's number 1 to 8; 11 arrays too short; 13 a list's length; 14 a value out of range. */
+/* Begins a study on a network file: for each segment initial mv, speed in whole m/h and queue in mv. All ramps are
+ * open, signs dark, slots empty. The file's number 1 to 8; 11 arrays too short; 13 a list's length; 14 a value out of
+ * range. */
 uint64_t study_start(uint64_t *words, size_t words_len, double *speeds, size_t speeds_len, const uint8_t *file,
-                     size_t file_len, const uint32_t *mvs, size_t mvs_len, const uint32_t *starts, size_t starts_len,
-                     const uint32_t *queues, size_t queues_len);
+                     size_t file_len, const uint32_t *mvs, size_t mvs_len, const uint32_t *initial_speeds,
+                     size_t initial_speeds_len, const uint32_t *queues, size_t queues_len);
 
-/* The sign of a segment of the live case: limit in km/h, 0 is dark; compliance in thousandths. 12, 17, 18. */
+/* The sign of a segment of the live case: limit in km/h, 0 is dark; drivers go at limit * (1000 + compliance) m/h, so
+ * that 0 is the limit itself and 100 is 10 % faster. 12, 17, 18. */
 uint64_t study_sign(uint64_t *words, size_t words_len, const double *speeds, size_t speeds_len, uint64_t segment,
                     uint64_t limit, int64_t compliance);
 
-/* The setting of a segment's ramp in the live case: open; fixed at a rate in mv a step; ALINEA with target in veh/km/lane,
- * gain and least in mv, interval in steps. 12, 17, 19, 20. */
+/* The setting of a segment's ramp in the live case: open; fixed at a rate in mv a step; ALINEA with target in
+ * veh/km/lane, gain in mv a step for each veh/km/lane by which density misses the target, least in mv a step, interval
+ * in steps. 12, 17, 19, 20. */
 uint64_t study_meter_open(uint64_t *words, size_t words_len, const double *speeds, size_t speeds_len, uint64_t segment);
 uint64_t study_meter_fixed(uint64_t *words, size_t words_len, const double *speeds, size_t speeds_len, uint64_t segment,
                            uint64_t rate);
@@ -83,10 +80,10 @@ uint64_t study_hold(uint64_t *words, size_t words_len, double *speeds, size_t sp
 uint64_t study_recall(uint64_t *words, size_t words_len, double *speeds, size_t speeds_len, uint64_t slot);
 uint64_t study_drop(uint64_t *words, size_t words_len, const double *speeds, size_t speeds_len, uint64_t slot);
 
-/* Reports write their figures from figures[0] on; later words stay; 24, after all other refusals, where figures_len is
- * too small. Of a case, 6 figures: steps, mv in segments, mv in queues, arrivals, exits, time in mv*s. 12, 21, 23. Of a
- * segment of a case, 7: N, whole part of v, bits of v, queue, last outflow, last release, R. 12, 21, 23, 17. The run
- * count, 1 figure: steps accepted since the start. 12. */
+/* Reports write their figures from figures[0] on; later words stay. Of a case, 6 figures: steps, mv in segments, mv in
+ * queues, arrivals, exits, time in mv*s. 12, 21, 23, 24. Of a segment of a case, 7: N, whole part of v, bits of v,
+ * queue, last outflow, last release, R. 12, 21, 23, 17, 24. The run count, 1 figure: steps accepted since the start.
+ * 12, 24. */
 uint64_t study_report(const uint64_t *words, size_t words_len, const double *speeds, size_t speeds_len,
                       uint64_t study_case, uint64_t *figures, size_t figures_len);
 uint64_t study_report_segment(const uint64_t *words, size_t words_len, const double *speeds, size_t speeds_len,
@@ -94,8 +91,8 @@ uint64_t study_report_segment(const uint64_t *words, size_t words_len, const dou
 uint64_t study_run_count(const uint64_t *words, size_t words_len, const double *speeds, size_t speeds_len,
                          uint64_t *figures, size_t figures_len);
 
-/* The study's network as a file, from out[0] on; later bytes stay. The file's length is 16 + 804 * out[7] + 16 * out[6].
- * 12; 24 where out is shorter than the file. */
+/* The study's network as a file, from out[0] on; later bytes stay. 12, 24. The length of the file is
+ * 16 + 804 * out[7] + 16 * out[6]. */
 uint64_t study_write(const uint64_t *words, size_t words_len, const double *speeds, size_t speeds_len, uint8_t *out,
                      size_t out_len);
 

@@ -2,12 +2,13 @@
 
 use crate::input::Input;
 use harness::random::Random;
-use harness::single::odd_speed;
+use harness::speeds::{no_number, strew, unread};
+use harness::study::{case_word, ARRANGEMENT, ARRANGEMENT_WORD};
 use harness::words::{entry_word, field_word, garbage};
+use oracle::book::SLOTS;
 
 /// Speeds that look odd.
-const ODD: [f64; 8] = [
-    f64::NAN,
+const ODD: [f64; 7] = [
     f64::INFINITY,
     f64::NEG_INFINITY,
     -0.0,
@@ -16,29 +17,35 @@ const ODD: [f64; 8] = [
     1_000.0,
     200_000.000_000_1,
 ];
+/// The bits of speeds past those that were made: a signalling NaN.
+const PAST: u64 = 0x7ff0_dead_feed_beef;
 
 /// Most changes would hide one another if there were many.
 const CHANGES: [usize; 8] = [0, 0, 0, 1, 1, 1, 2, 6];
 
-/// Both arrays, and where their cases begin.
+/// Both arrays.
 pub struct Made {
     pub words: Vec<u64>,
     pub speeds: Vec<f64>,
     /// Segments of the network that was put in.
     pub n: usize,
-    /// The first word of each case.
-    pub cases: Vec<usize>,
 }
 
 impl Made {
-    /// As they are, or other numbers throughout.
+    /// As they are, or other numbers throughout. The arrangement number may
+    /// stay, so that more is looked at.
     pub fn fill(&mut self, input: &mut Input, random: &mut Random) {
         match input.below(16) {
             0 => self.words.fill(0),
-            1 => self.words.fill_with(|| garbage(random)),
+            1 => self.words = garbage(random, self.words.len()),
             2 => self.words.fill_with(|| random.number()),
-            3 => self.speeds.fill_with(|| odd_speed(random)),
-            _ => {}
+            3 => self.speeds = unread(random, self.speeds.len()),
+            4 | 5 => strew(random, &mut self.speeds),
+            6 => self.words[ARRANGEMENT_WORD] = input.number(),
+            _ => return,
+        }
+        if input.below(2) == 1 {
+            self.words[ARRANGEMENT_WORD] = ARRANGEMENT;
         }
     }
 
@@ -48,15 +55,15 @@ impl Made {
         let (words, speeds) = match input.below(16) {
             0 => (words - 1, speeds),
             1 => (words, speeds - 1),
-            2 => (words + input.below(64), speeds + input.below(16)),
-            3 => (input.place(words), speeds),
-            4 => (words, input.place(speeds)),
-            5 => (0, 0),
-            6 => (self.cases[0] - 1, speeds),
+            2 | 3 => (words + input.below(64), speeds + input.below(16)),
+            4 => (input.place(words), speeds),
+            5 => (words, input.place(speeds)),
+            6 => (0, 0),
+            7 => (case_word(self.n, 0) - 1, speeds),
             _ => (words, speeds),
         };
         self.words.resize(words, u64::MAX);
-        self.speeds.resize(speeds, f64::NAN);
+        self.speeds.resize(speeds, f64::from_bits(PAST));
     }
 
     /// Some changes, or none.
@@ -74,10 +81,11 @@ impl Made {
         let Some(speed) = self.speeds.get_mut(at) else {
             return;
         };
-        *speed = match input.below(4) {
+        *speed = match input.below(5) {
             0 => ODD[input.below(ODD.len())],
             1 => f64::from_bits(speed.to_bits() ^ 1 << input.below(64)),
             2 => f64::from_bits(input.number()),
+            3 => no_number(&mut input.random()),
             _ => input.number() as f64,
         };
     }
@@ -113,9 +121,9 @@ impl Made {
             0 => input.below(16),
             1 => entry_word(input.below(8), input.below(201)),
             2 => field_word(input.below(self.n), input.below(16)),
-            3 => self.cases[0].saturating_sub(1 + input.below(16)),
+            3 => case_word(self.n, 0) - 1 - input.below(16),
             4..=6 => {
-                let case = self.cases[input.below(self.cases.len())];
+                let case = case_word(self.n, input.below(SLOTS + 1));
                 case + 16 * input.below(self.n + 1) + input.below(16)
             }
             _ => input.place(self.words.len().max(1)),

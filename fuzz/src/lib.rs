@@ -41,8 +41,6 @@ fn one(input: &mut Input) -> Result<(), Difference> {
     match input.below(8) {
         0 => files::raw(input),
         1 => files::patched(input),
-        2 => studies::write(input),
-        3 => studies::case_step(input),
         _ => studies::calls(input),
     }
 }

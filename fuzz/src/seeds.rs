@@ -1,6 +1,7 @@
 //! Inputs to begin with: whole valid files, sound studies and lists of right
 //! calls, damaged arrays, and short bytes of any content.
 
+use harness::calls::KINDS;
 use harness::networks::road;
 use harness::random::Random;
 use oracle::file;
@@ -47,7 +48,7 @@ fn right_calls(random: &mut Random) -> Vec<u8> {
     bytes.extend(any(random, 2));
     bytes.extend([1, random.below(256) as u8, 15, 15, 0]);
     for _ in 0..random.between(1, 12) {
-        bytes.extend([random.below(14) as u8, 0]);
+        bytes.extend([random.below(KINDS.len() as u64) as u8, 0]);
         bytes.extend(any(random, 2));
     }
     bytes
@@ -56,7 +57,7 @@ fn right_calls(random: &mut Random) -> Vec<u8> {
 /// For every kind of target but raw files: anything after two bytes for what
 /// is made.
 fn damaged(random: &mut Random) -> Vec<u8> {
-    let mut bytes = vec![random.between(1, 4) as u8];
+    let mut bytes = vec![random.between(1, 7) as u8];
     bytes.extend(any(random, 2));
     bytes.extend([random.below(8) as u8, random.below(256) as u8, 15, 15]);
     bytes.extend(any(random, 40));

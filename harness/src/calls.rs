@@ -1,9 +1,12 @@
 //! Calls on a study, with what either side answers.
 
-mod made;
+mod drawn;
+mod engine_side;
 mod oracle_side;
 
-pub use made::{good_start, Scene};
+pub use drawn::{good_start, Kind, Scene, KINDS};
+pub use engine_side::ask_engine;
+pub use oracle::book::Question;
 pub use oracle_side::{ask_arrays, ask_book, begin_book};
 
 use oracle::case::Setting;
@@ -28,13 +31,9 @@ pub enum Call {
     Hold(u64),
     Recall(u64),
     Drop(u64),
-    Report {
+    Question {
         case: u64,
-        room: usize,
-    },
-    ReportSegment {
-        case: u64,
-        segment: u64,
+        question: Question,
         room: usize,
     },
     RunCount {
@@ -45,54 +44,15 @@ pub enum Call {
     },
 }
 
-/// The C function that a call goes to.
-#[derive(Clone, Copy, Debug, PartialEq, Eq)]
-pub enum Function {
-    Sound,
-    Start,
-    Sign,
-    MeterOpen,
-    MeterFixed,
-    MeterAlinea,
-    Step,
-    Hold,
-    Recall,
-    Drop,
-    Report,
-    ReportSegment,
-    RunCount,
-    Write,
-}
-
-impl Function {
-    /// All of them: Sound and Start, then those that ask a study or change it.
-    pub const ALL: [Function; 14] = [
-        Function::Sound,
-        Function::Start,
-        Function::Sign,
-        Function::MeterOpen,
-        Function::MeterFixed,
-        Function::MeterAlinea,
-        Function::Step,
-        Function::Hold,
-        Function::Recall,
-        Function::Drop,
-        Function::Report,
-        Function::ReportSegment,
-        Function::RunCount,
-        Function::Write,
-    ];
-}
-
 /// Arguments of Start. Every number of the lists fits 32 bits.
 #[derive(Clone, Debug)]
 pub struct Start {
     pub file: Box<[u8]>,
     /// Initial mv.
     pub counts: Vec<u64>,
-    /// In whole m/h.
+    /// Initial speeds, in whole m/h.
     pub speeds: Vec<u64>,
-    /// In mv.
+    /// Initial queues, in mv.
     pub queues: Vec<u64>,
 }
 
@@ -105,25 +65,12 @@ pub struct Answer {
 }
 
 impl Call {
-    pub fn function(&self) -> Function {
-        match self {
-            Call::Sound => Function::Sound,
-            Call::Start(_) => Function::Start,
-            Call::Sign { .. } => Function::Sign,
-            Call::Meter { setting, .. } => match setting {
-                Setting::Open => Function::MeterOpen,
-                Setting::Fixed(_) => Function::MeterFixed,
-                Setting::Alinea(_) => Function::MeterAlinea,
-            },
-            Call::Step(_) => Function::Step,
-            Call::Hold(_) => Function::Hold,
-            Call::Recall(_) => Function::Recall,
-            Call::Drop(_) => Function::Drop,
-            Call::Report { .. } => Function::Report,
-            Call::ReportSegment { .. } => Function::ReportSegment,
-            Call::RunCount { .. } => Function::RunCount,
-            Call::Write { .. } => Function::Write,
-        }
+    /// Whether it leaves the study's arrays even where it is accepted.
+    pub fn only_asks(&self) -> bool {
+        matches!(
+            self,
+            Call::Sound | Call::Question { .. } | Call::RunCount { .. } | Call::Write { .. }
+        )
     }
 }
 
@@ -136,9 +83,7 @@ impl Answer {
     /// The call's buffers as they are lent, each exactly as long as its room.
     pub fn lent(call: &Call) -> Answer {
         let (figures, bytes) = match *call {
-            Call::Report { room, .. } => (room, 0),
-            Call::ReportSegment { room, .. } => (room, 0),
-            Call::RunCount { room } => (room, 0),
+            Call::Question { room, .. } | Call::RunCount { room } => (room, 0),
             Call::Write { room } => (0, room),
             _ => (0, 0),
         };

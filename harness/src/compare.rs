@@ -1,7 +1,6 @@
 //! The tests. Each makes one input after another and asks both sides.
 
 mod both;
-pub mod case_step;
 mod changed;
 pub mod curves;
 mod damaged;
@@ -13,13 +12,14 @@ mod million;
 mod random_bytes;
 mod refused;
 mod steps;
-pub mod studies;
+mod studies;
 mod tallies;
 mod valid;
-pub mod write;
+mod write;
 
-use crate::engine;
+use crate::engine::asked;
 use crate::random::Random;
+use crate::reached;
 use oracle::file;
 
 /// A buffer too short for what is put into it.
@@ -31,6 +31,16 @@ pub struct Difference {
     pub what: String,
     /// The input's bytes.
     pub input: Vec<u8>,
+}
+
+impl Difference {
+    /// The same with what was tried said first.
+    fn of(self, tried: &str) -> Difference {
+        Difference {
+            what: format!("{tried}: {}", self.what),
+            ..self
+        }
+    }
 }
 
 pub struct Test {
@@ -131,9 +141,10 @@ pub const TESTS: &[Test] = &[
 
 /// Both sides give the file the expected number.
 fn expect_number(file: &[u8], expected: u64, what: &str) -> Result<(), Difference> {
-    let engine = engine::check(file);
+    let (function, engine) = asked!(network_check(file));
     let oracle = u64::from(file::check(file));
     if engine == expected && oracle == expected {
+        reached::note(function, engine);
         return expect_place(file, what);
     }
     Err(Difference {
@@ -159,13 +170,14 @@ fn expect_place(file: &[u8], what: &str) -> Result<(), Difference> {
             expected[..4].copy_from_slice(&figures.map(|figure| figure as u64));
         }
         let mut place = vec![u64::MAX; length];
-        let engine = engine::place(file, &mut place);
+        let (function, engine) = asked!(network_place(file, &mut place));
         if engine != answer || place != expected {
             return Err(Difference {
                 what: format!("{what}: place {expected:?}, engine {engine} and {place:?}"),
                 input: file.to_vec(),
             });
         }
+        reached::note(function, engine);
     }
     Ok(())
 }

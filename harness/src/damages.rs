@@ -1,10 +1,11 @@
-//! Damages to a valid file, to a stored network or to a sound case, each with
-//! the number that it must bring.
+//! Damages to a valid file, to a stored network, to a sound case, or to what a
+//! study keeps between the two, each with the number that it must bring.
 
 mod curves;
 mod figures;
 mod head;
 mod length;
+mod marks;
 mod ramps;
 mod records;
 mod settings;
@@ -12,10 +13,11 @@ mod signs;
 mod speeds;
 mod stored;
 
+use crate::arrays::Arrays;
 use crate::draft::Draft;
 use crate::networks::Shape;
 use crate::random::Random;
-use crate::single::Single;
+use crate::stored_case::CaseDraft;
 use crate::words::Stored;
 use oracle::file::Network;
 pub use stored::outside;
@@ -32,8 +34,8 @@ pub enum Part {
     LastRecord,
 }
 
-/// A damage to `D`: a file, the words of a stored network, or the arrays of a
-/// case.
+/// A damage to `D`: a file, the words of a stored network, a case in words and
+/// speeds, or the arrays of a study.
 pub struct Damage<D: 'static> {
     pub name: &'static str,
     /// The number of the row that then applies.
@@ -78,16 +80,23 @@ pub const FILE: [&[Damage<Draft>]; 4] = [
 /// Every damage to the words of a stored network.
 pub const STORED: [&[Damage<Stored>]; 1] = [stored::DAMAGES];
 
-/// Every damage to a case in arrays.
-pub const CASE: [&[Damage<Single>]; 4] = [
+/// Every damage to the words between a study's network and its cases.
+pub const MARKS: [&[Damage<Arrays>]; 1] = [marks::DAMAGES];
+
+/// Every damage to a case in words and speeds.
+pub const CASE: [&[Damage<CaseDraft>]; 4] = [
     figures::DAMAGES,
     signs::DAMAGES,
     settings::DAMAGES,
     speeds::DAMAGES,
 ];
 
-/// A damage to a case in arrays: the study is then not sound.
-const fn unsound(name: &'static str, part: Part, apply: ToCase) -> Damage<Single> {
+/// A damage to a study or a case of it: the study is then not sound.
+const fn unsound<D>(
+    name: &'static str,
+    part: Part,
+    apply: fn(&mut D, usize, &mut Random),
+) -> Damage<D> {
     Damage {
         name,
         number: 12,
@@ -96,7 +105,7 @@ const fn unsound(name: &'static str, part: Part, apply: ToCase) -> Damage<Single
     }
 }
 
-type ToCase = fn(&mut Single, usize, &mut Random);
+type ToCase = fn(&mut CaseDraft, usize, &mut Random);
 
 /// The damage whose turn it is.
 pub fn in_turn<D>(tables: &[&'static [Damage<D>]], turn: u64) -> &'static Damage<D> {

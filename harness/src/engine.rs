@@ -1,87 +1,49 @@
-//! The engine's C functions, with a safe wrapper each.
+//! The engine's C functions: each is named in this table, with its arguments
+//! and the numbers that refuse it. A comparison in which one of these numbers
+//! never comes up fails.
 //!
-//! A slice is passed as its pointer and its length. Every function answers
-//! with the number that refuses the call, 0 if none.
+//! `[T]` is a list that is read and `[mut T]` one that may be written; each is
+//! handed over as pointer and length. `study` is the two arrays of a study,
+//! lent for writing whatever the header says, so that a function that should
+//! only read them is seen if it writes. Every function becomes a safe wrapper
+//! of its own name and a member of `Function`.
 
-pub mod study;
+#[macro_use]
+mod declared;
 
-extern "C" {
-    fn network_check(file: *const u8, length: usize) -> u64;
-    fn network_curve_number(file: *const u8, length: usize, curve: u64) -> u64;
-    fn network_curve(
-        file: *const u8,
-        length: usize,
-        curve: u64,
-        place: *mut u64,
-        place_length: usize,
-    ) -> u64;
-    fn network_place(file: *const u8, length: usize, place: *mut u64, place_length: usize) -> u64;
-    fn network_write(
-        words: *const u64,
-        words_length: usize,
-        out: *mut u8,
-        out_length: usize,
-    ) -> u64;
-    fn case_step(
-        words: *mut u64,
-        words_length: usize,
-        speeds: *mut f64,
-        speeds_length: usize,
-        arrivals: *const u32,
-        arrivals_length: usize,
-    ) -> u64;
+functions! {
+    network_check(file: [u8]) refused by [1, 2, 3, 4, 5, 6, 7, 8];
+    network_curve_number(file: [u8], curve: u64) refused by [1, 2, 3, 4, 5, 6, 7, 8, 10];
+    network_curve(file: [u8], curve: u64, place: [mut u64])
+        refused by [1, 2, 3, 4, 5, 6, 7, 8, 10, 24];
+    network_place(file: [u8], place: [mut u64]) refused by [24];
+
+    study_sound(study) refused by [12];
+    study_start(study, file: [u8], mvs: [u32], initial_speeds: [u32], queues: [u32])
+        refused by [1, 2, 3, 4, 5, 6, 7, 8, 11, 13, 14];
+    study_sign(study, segment: u64, limit: u64, compliance: i64) refused by [12, 17, 18];
+    study_meter_open(study, segment: u64) refused by [12, 17, 19];
+    study_meter_fixed(study, segment: u64, rate: u64) refused by [12, 17, 19, 20];
+    study_meter_alinea(study, segment: u64, target: u64, gain: u64, least: u64, interval: u64)
+        refused by [12, 17, 19, 20];
+    study_step(study, arrivals: [u32]) refused by [12, 13, 15, 16];
+    study_hold(study, slot: u64) refused by [12, 21, 22];
+    study_recall(study, slot: u64) refused by [12, 21, 23];
+    study_drop(study, slot: u64) refused by [12, 21, 23];
+    study_report(study, study_case: u64, figures: [mut u64]) refused by [12, 21, 23, 24];
+    study_report_segment(study, study_case: u64, segment: u64, figures: [mut u64])
+        refused by [12, 21, 23, 17, 24];
+    study_run_count(study, figures: [mut u64]) refused by [12, 24];
+    study_write(study, out: [mut u8]) refused by [12, 24];
 }
 
-/// The file's number.
-pub fn check(file: &[u8]) -> u64 {
-    // SAFETY: pointer and length are those of a live slice.
-    unsafe { network_check(file.as_ptr(), file.len()) }
-}
-
-/// The number of a file and a curve number.
-pub fn curve_number(file: &[u8], curve: u64) -> u64 {
-    // SAFETY: as above.
-    unsafe { network_curve_number(file.as_ptr(), file.len(), curve) }
-}
-
-/// The chosen curve's byte offset and length, put into the first two places.
-pub fn curve(file: &[u8], curve: u64, place: &mut [u64]) -> u64 {
-    // SAFETY: as above; `place` is lent for writing and overlaps nothing.
-    unsafe {
-        network_curve(
-            file.as_ptr(),
-            file.len(),
-            curve,
-            place.as_mut_ptr(),
-            place.len(),
+/// Asks a function of the table: which one it is, and what it answers.
+macro_rules! asked {
+    ($function:ident($($argument:expr),*)) => {
+        (
+            $crate::engine::Function::$function,
+            $crate::engine::$function($($argument),*),
         )
-    }
+    };
 }
-
-/// Where the file is wrong: number, part, rule and byte, put into the first
-/// four places.
-pub fn place(file: &[u8], place: &mut [u64]) -> u64 {
-    // SAFETY: as above.
-    unsafe { network_place(file.as_ptr(), file.len(), place.as_mut_ptr(), place.len()) }
-}
-
-/// The stored network written as a file into `out`.
-pub fn write(words: &[u64], out: &mut [u8]) -> u64 {
-    // SAFETY: as above; `out` is lent for writing and overlaps nothing.
-    unsafe { network_write(words.as_ptr(), words.len(), out.as_mut_ptr(), out.len()) }
-}
-
-/// One step of the network and the case in the arrays.
-pub fn step(words: &mut [u64], speeds: &mut [f64], arrivals: &[u32]) -> u64 {
-    // SAFETY: as above; both arrays are lent for writing, and none overlaps.
-    unsafe {
-        case_step(
-            words.as_mut_ptr(),
-            words.len(),
-            speeds.as_mut_ptr(),
-            speeds.len(),
-            arrivals.as_ptr(),
-            arrivals.len(),
-        )
-    }
-}
+pub(crate) use asked;

@@ -1,5 +1,6 @@
 //! The proved engine and the oracle on the same inputs.
 
+pub mod arrays;
 pub mod bounds;
 pub mod calls;
 pub mod cases;
@@ -7,10 +8,12 @@ pub mod compare;
 pub mod damages;
 pub mod draft;
 pub mod engine;
+pub mod made;
 pub mod networks;
 pub mod random;
 pub mod reached;
 pub mod runner;
-pub mod single;
+pub mod speeds;
+pub mod stored_case;
 pub mod study;
 pub mod words;

@@ -1,60 +1,27 @@
 //! A study in lent arrays, laid out word by word.
 //!
 //! After the network's 2,560 words come the run count, the marks of the six
-//! slots and nine free words, then seven cases of 16n + 8 words each. Case k
-//! has n speeds from speed kn on. Everything else is garbage, words and speeds
-//! past the lengths too.
+//! slots, eight free words and the arrangement number, then seven cases of
+//! 16n + 8 words each. Case k has n speeds from speed kn on. Everything else is
+//! garbage, words and speeds past the lengths too.
 
+use crate::arrays::Arrays;
 use crate::random::Random;
-use crate::single::{odd_speed, put_case, row_word};
-use crate::words::{Stored, NETWORK_WORDS};
+use crate::stored_case::{self, put_case, CaseDraft};
+use crate::words::{put_network, NETWORK_WORDS};
 use oracle::book::SLOTS;
 use oracle::case::Case;
 use oracle::file::Network;
+pub use oracle::study::ARRANGEMENT;
 
 /// The word of the run count; the marks of slots 1..6 follow it.
 pub const RUNS: usize = NETWORK_WORDS;
+/// The word of the arrangement number.
+pub const ARRANGEMENT_WORD: usize = CASES - 1;
 /// Most accepted steps since Start.
 pub const MOST_RUNS: u64 = 1_000_000;
 /// Words before the live case.
 const CASES: usize = NETWORK_WORDS + 16;
-
-/// The two arrays. What is lent of them may be less than there is: the rest
-/// stands behind what is lent, and no call may touch it.
-#[derive(Clone)]
-pub struct Arrays {
-    pub words: Box<[u64]>,
-    pub speeds: Box<[f64]>,
-    pub lent_words: usize,
-    pub lent_speeds: usize,
-}
-
-impl Arrays {
-    /// All of it lent.
-    pub fn lend_all(words: Vec<u64>, speeds: Vec<f64>) -> Arrays {
-        Arrays {
-            lent_words: words.len(),
-            lent_speeds: speeds.len(),
-            words: words.into(),
-            speeds: speeds.into(),
-        }
-    }
-
-    pub fn lent(&mut self) -> (&mut [u64], &mut [f64]) {
-        (
-            &mut self.words[..self.lent_words],
-            &mut self.speeds[..self.lent_speeds],
-        )
-    }
-
-    /// Every word and every bit is the same.
-    pub fn same(&self, other: &Arrays) -> bool {
-        let bits = |arrays: &Arrays, at: usize| arrays.speeds[at].to_bits();
-        self.words == other.words
-            && self.speeds.len() == other.speeds.len()
-            && (0..self.speeds.len()).all(|at| bits(self, at) == bits(other, at))
-    }
-}
 
 /// A sound study.
 pub struct Study {
@@ -67,39 +34,61 @@ pub struct Study {
 }
 
 impl Study {
+    /// Every slot is empty.
+    pub fn live(network: Network, runs: u64, live: Case) -> Study {
+        let mut cases = vec![None; SLOTS + 1];
+        cases[0] = Some(live);
+        Study {
+            network,
+            runs,
+            marks: [0; SLOTS],
+            cases,
+        }
+    }
+
     /// The study in arrays that have room for it, and some more.
     pub fn laid(&self, random: &mut Random) -> Arrays {
         let n = self.network.segments.len();
-        let stored = Stored::with_words(self.network.clone(), words_for(n), random);
-        let past = random.edge(0, 20) as usize;
-        let speeds = (0..speeds_for(n) + past).map(|_| odd_speed(random));
-        let mut arrays = Arrays::lend_all(stored.words, speeds.collect());
-        arrays.words[RUNS] = self.runs;
-        arrays.words[RUNS + 1..][..SLOTS].copy_from_slice(&self.marks);
+        let words = words_for(n) + random.edge(0, 300) as usize;
+        let speeds = speeds_for(n) + random.edge(0, 20) as usize;
+        let more = random.once_in(2);
+        let mut arrays = Arrays::garbage(random, words, speeds, more);
+        put_study(&self.network, self.runs, &self.marks, &mut arrays.words);
         for (number, case) in self.cases.iter().enumerate() {
             if let Some(case) = case {
-                put_case_at(case, number, &mut arrays);
+                put_case_at(number, case, &mut arrays);
             }
         }
         arrays
     }
 }
 
+/// Puts all that stands before the cases; other words stay.
+pub fn put_study(network: &Network, runs: u64, marks: &[u64; SLOTS], words: &mut [u64]) {
+    put_network(network, words);
+    words[RUNS] = runs;
+    words[RUNS + 1..][..SLOTS].copy_from_slice(marks);
+    words[ARRANGEMENT_WORD] = ARRANGEMENT;
+}
+
 /// Puts a case at the place of that number.
-fn put_case_at(case: &Case, number: usize, arrays: &mut Arrays) {
+pub fn put_case_at(number: usize, case: &Case, arrays: &mut Arrays) {
     let n = case.segments.len();
-    // `put_case` counts its words from the end of the network on.
-    let before = case_word(n, number) - row_word(0, 0);
-    put_case(
-        case,
-        &mut arrays.words[before..],
-        &mut arrays.speeds[number * n..],
-    );
+    let words = &mut arrays.words[case_word(n, number)..];
+    put_case(case, words, &mut arrays.speeds[number * n..]);
+}
+
+/// Puts a case with its damage and its free words at the place of that number.
+pub fn put_draft_at(number: usize, draft: &CaseDraft, arrays: &mut Arrays) {
+    let n = draft.n();
+    let words = &mut arrays.words[case_word(n, number)..];
+    words[..draft.words.len()].copy_from_slice(&draft.words);
+    arrays.speeds[number * n..][..n].copy_from_slice(&draft.speeds);
 }
 
 /// The first word of a case.
 pub fn case_word(n: usize, number: usize) -> usize {
-    CASES + number * (16 * n + 8)
+    CASES + number * stored_case::words_for(n)
 }
 
 /// Words that n segments need.
@@ -110,4 +99,21 @@ pub fn words_for(n: usize) -> usize {
 /// Speeds that n segments need.
 pub fn speeds_for(n: usize) -> usize {
     (SLOTS + 1) * n
+}
+
+/// What a word of the arrays is, for a reader.
+pub fn word_name(words: &[u64], at: usize) -> String {
+    let n = words.get(1).map_or(0, |&n| n.min(40) as usize);
+    let name = match at {
+        RUNS => "run count".to_string(),
+        ARRANGEMENT_WORD => "arrangement number".to_string(),
+        _ if at > RUNS && at <= RUNS + SLOTS => format!("mark of slot {}", at - RUNS),
+        _ if at >= CASES && at < words_for(n) => {
+            let length = stored_case::words_for(n);
+            let (case, word) = ((at - CASES) / length, (at - CASES) % length);
+            format!("{} in case {case}", stored_case::word_name(n, word))
+        }
+        _ => return format!("word {at}"),
+    };
+    format!("word {at}, {name}")
 }

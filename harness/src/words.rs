@@ -9,29 +9,18 @@ use oracle::file::{Network, Segment};
 
 /// Words lent for a network.
 pub const NETWORK_WORDS: usize = 2560;
+/// Words of garbage of one kind.
+const GARBAGE_RUN: usize = 32;
 
 /// A stored network that a test is about to damage.
 pub struct Stored {
     /// The network before the damage.
     pub network: Network,
+    /// Its words, and all that come after them.
     pub words: Vec<u64>,
 }
 
 impl Stored {
-    /// The network in its words. The other words hold garbage.
-    pub fn new(network: Network, random: &mut Random) -> Stored {
-        Stored::with_words(network, NETWORK_WORDS, random)
-    }
-
-    /// The same with at least so many words.
-    pub fn with_words(network: Network, least: usize, random: &mut Random) -> Stored {
-        let length = least + random.edge(0, 300) as usize;
-        let words = (0..length).map(|_| garbage(random)).collect();
-        let mut stored = Stored { network, words };
-        stored.put_network();
-        stored
-    }
-
     /// One metre less than the segment's free speed permits.
     pub fn shorten(&mut self, record: usize) {
         self.words[field_word(record, 0)] = too_short(&self.network, record);
@@ -40,19 +29,19 @@ impl Stored {
     /// The same network with F × T and 3600 × L as they are here.
     pub fn rebound(&mut self, record: usize, bound: Bound) {
         bound.put(&mut self.network, record);
-        self.put_network();
+        put_network(&self.network, &mut self.words);
     }
+}
 
-    /// Puts the network into its words; the others stay.
-    pub fn put_network(&mut self) {
-        self.words[..7].copy_from_slice(&head(&self.network));
-        for (curve, entries) in self.network.curves.iter().enumerate() {
-            let entries = entries.map(u64::from);
-            self.words[entry_word(curve, 0)..][..entries.len()].copy_from_slice(&entries);
-        }
-        for (record, segment) in self.network.segments.iter().enumerate() {
-            self.words[field_word(record, 0)..][..8].copy_from_slice(&fields(segment));
-        }
+/// Puts the network into its words; the others stay.
+pub fn put_network(network: &Network, words: &mut [u64]) {
+    words[..7].copy_from_slice(&head(network));
+    for (curve, entries) in network.curves.iter().enumerate() {
+        let entries = entries.map(u64::from);
+        words[entry_word(curve, 0)..][..entries.len()].copy_from_slice(&entries);
+    }
+    for (record, segment) in network.segments.iter().enumerate() {
+        words[field_word(record, 0)..][..8].copy_from_slice(&fields(segment));
     }
 }
 
@@ -66,13 +55,18 @@ pub fn field_word(record: usize, field: usize) -> usize {
     1624 + 16 * record + field
 }
 
-/// A word that says nothing: any number, or one that looks like a field.
-pub fn garbage(random: &mut Random) -> u64 {
-    match random.below(3) {
-        0 => random.number(),
-        1 => random.below(300),
-        _ => 0,
+/// So many words that say nothing: any numbers, such that look like fields,
+/// or 0.
+pub fn garbage(random: &mut Random, count: usize) -> Vec<u64> {
+    let mut words = vec![0; count];
+    for run in words.chunks_mut(GARBAGE_RUN) {
+        match random.below(3) {
+            0 => run.fill_with(|| random.number()),
+            1 => run.fill_with(|| random.below(300)),
+            _ => {}
+        }
     }
+    words
 }
 
 fn head(network: &Network) -> [u64; 7] {

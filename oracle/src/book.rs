@@ -6,15 +6,15 @@
 
 mod calls;
 mod line;
-mod report;
+mod questions;
 pub(crate) mod rows;
 
 use crate::case::{Case, Setting, Sign};
 use crate::file;
 use crate::network::Network;
-pub use calls::{Answer, Call, Lengths, Start};
+pub use calls::{Call, Figures, Lengths, Start};
 pub use line::{Item, Line};
-pub use report::{CaseReport, SegmentReport};
+pub use questions::Question;
 
 /// Slots for held cases.
 pub const SLOTS: usize = 6;
@@ -47,7 +47,7 @@ impl Book {
     }
 
     /// Takes one call. A refused call changes nothing.
-    pub fn call(&mut self, call: &Call) -> Result<Answer, u8> {
+    pub fn call(&mut self, call: &Call) -> Result<Figures, u8> {
         match *call {
             Call::Start(start) => *self = Book::start(self.lengths, &start)?,
             Call::Sign {
@@ -60,11 +60,12 @@ impl Book {
             Call::Hold { slot } => self.hold(slot)?,
             Call::Recall { slot } => self.recall(slot)?,
             Call::Drop { slot } => self.drop_slot(slot)?,
-            Call::ReportCase { case } => return self.report_case(case),
-            Call::ReportSegment { case, segment } => return self.report_segment(case, segment),
-            Call::ReportRuns => return Ok(Answer::Runs(self.runs)),
+            Call::Question { case, question } => {
+                return question.answer(&self.network, self.line(case)?.case())
+            }
+            Call::RunCount => return Ok(vec![self.runs]),
         }
-        Ok(Answer::Done)
+        Ok(Figures::new())
     }
 
     pub fn network(&self) -> &Network {
@@ -131,18 +132,6 @@ impl Book {
         let (place, _) = rows::judge_filled(&self.slots, slot)?;
         self.slots[place] = None;
         Ok(())
-    }
-
-    fn report_case(&self, case: u64) -> Result<Answer, u8> {
-        let line = self.line(case)?;
-        Ok(Answer::Case(CaseReport::of(line.case())))
-    }
-
-    fn report_segment(&self, case: u64, segment: u64) -> Result<Answer, u8> {
-        let line = self.line(case)?;
-        let place = rows::judge_segment(&self.network, segment)?;
-        let state = &line.case().segments[place];
-        Ok(Answer::Segment(SegmentReport::of(state)))
     }
 
     /// The line of case 0 (live) or 1..6.

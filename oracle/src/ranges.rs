@@ -1,6 +1,6 @@
 //! The range of every field, for a file and for stored words alike.
 //!
-//! Fields are held as 64-bit numbers here: a stored word may be any number,
+//! Fields are 64-bit numbers here: a stored word may be any number,
 //! and nothing may be cut off before it is judged.
 
 use crate::network::{Curve, Network, Segment, ENTRIES};

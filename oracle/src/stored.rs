@@ -6,7 +6,6 @@
 
 use crate::network::{Curve, Network, Segment, ENTRIES};
 use crate::ranges::{judge_curve, judge_record, Head, Record};
-use crate::refusal::{ARRAYS, HEAD_FIELD};
 
 /// Words that the stored network may take.
 pub(crate) const NETWORK_WORDS: usize = 2560;
@@ -14,17 +13,14 @@ const CURVES_AT: usize = 16;
 const RECORDS_AT: usize = 1624;
 const RECORD_WORDS: usize = 16;
 
-/// The network in the words, or the number that refuses it: 11 for too few
-/// words, else the first of rows 4, 6, 7 and 8.
-pub fn parse(words: &[u64]) -> Result<Network, u8> {
-    if words.len() < NETWORK_WORDS {
-        return Err(ARRAYS);
-    }
-    let head = judge(words)?;
+/// The network in the words, or nothing where there are too few of them or
+/// one of rows 4, 6, 7 and 8 applies.
+pub(crate) fn read(words: &[u64]) -> Option<Network> {
+    let head = judge(words.get(..NETWORK_WORDS)?)?;
     let curves = (0..head.curves as usize).map(|curve| typed_curve(words, curve));
     let records = (0..head.segments as usize).map(|place| stored_record(words, place));
     let segments = records.map(|record| record.segment()).collect();
-    Ok(head.network(curves.collect(), segments))
+    Some(head.network(curves.collect(), segments))
 }
 
 /// Puts the network into its words, of which there are enough; all others up
@@ -47,21 +43,21 @@ pub(crate) fn put(network: &Network, words: &mut [u64]) {
     }
 }
 
-/// Rows 4, 6, 7 and 8 on the stored numbers.
-fn judge(words: &[u64]) -> Result<Head, u8> {
+/// Rows 4, 6, 7 and 8 on the stored numbers: the head where none applies.
+fn judge(words: &[u64]) -> Option<Head> {
     let head = stored_head(words);
     if !head.in_range() {
-        return Err(HEAD_FIELD);
+        return None;
     }
     for curve in 0..head.curves as usize {
-        judge_curve(stored_curve(words, curve).iter().copied())?;
+        judge_curve(stored_curve(words, curve).iter().copied()).ok()?;
     }
     for place in 0..head.segments as usize {
         let record = stored_record(words, place);
         let first_entry = |curve| stored_curve(words, curve)[0];
-        judge_record(&record, place as u64, &head, first_entry)?;
+        judge_record(&record, place as u64, &head, first_entry).ok()?;
     }
-    Ok(head)
+    Some(head)
 }
 
 fn stored_head(words: &[u64]) -> Head {

@@ -1,17 +1,17 @@
 //! One case as it is stored in lent words and speeds.
 //!
-//! Each segment has a row of sixteen words; after the rows come the case's
+//! Each segment's state has sixteen words; after the states come the case's
 //! totals: steps, arrivals, exits, time and four free words. Speed i (from 0)
 //! is v of segment i. Every function is handed exactly the case's own words
 //! and speeds.
 
-mod row;
+mod state;
 
 use crate::book::rows::LINE_STEPS;
 use crate::case::{Case, SegmentState};
 use crate::network::Network;
 
-const ROW_WORDS: usize = 16;
+const STATE_WORDS: usize = 16;
 const TOTALS_WORDS: usize = 8;
 /// Most mv that any figure of a sound case says, and most mv in all.
 const MOST_MV: u64 = 1_000_000_000_000;
@@ -20,7 +20,7 @@ const MOST_TIME: u64 = 1_000_000_000_000_000_000;
 
 /// Words of a case of n segments.
 pub(crate) fn case_words(n: usize) -> usize {
-    ROW_WORDS * n + TOTALS_WORDS
+    STATE_WORDS * n + TOTALS_WORDS
 }
 
 /// The case, or nothing where it is not sound.
@@ -52,7 +52,7 @@ pub(crate) fn sound(network: &Network, words: &[u64], speeds: &[f64]) -> bool {
 /// totals.
 pub(crate) fn put_step(case: &Case, words: &mut [u64], speeds: &mut [f64]) {
     for (place, state) in case.segments.iter().enumerate() {
-        row::put_step(state, &mut words[ROW_WORDS * place..]);
+        state::put_step(state, &mut words[STATE_WORDS * place..]);
         speeds[place] = state.speed;
     }
     put_totals(case, words);
@@ -70,12 +70,13 @@ pub(crate) fn put(case: &Case, words: &mut [u64], speeds: &mut [f64]) {
 
 /// Puts the sign of a segment (from 0).
 pub(crate) fn put_sign(case: &Case, place: usize, words: &mut [u64]) {
-    row::put_sign(case.segments[place].sign, &mut words[ROW_WORDS * place..]);
+    let words = &mut words[STATE_WORDS * place..];
+    state::put_sign(case.segments[place].sign, words);
 }
 
 /// Puts the setting and the rate of a segment (from 0).
 pub(crate) fn put_setting(case: &Case, place: usize, words: &mut [u64]) {
-    row::put_setting(&case.segments[place], &mut words[ROW_WORDS * place..]);
+    state::put_setting(&case.segments[place], &mut words[STATE_WORDS * place..]);
 }
 
 /// The state of each segment, or nothing where it is not sound.
@@ -84,11 +85,11 @@ fn states<'a>(
     words: &'a [u64],
     speeds: &'a [f64],
 ) -> impl Iterator<Item = Option<SegmentState>> + 'a {
-    let rows = words.chunks_exact(ROW_WORDS).zip(speeds);
+    let stored = words.chunks_exact(STATE_WORDS).zip(speeds);
     let places = 0..network.segments.len();
     places
-        .zip(rows)
-        .map(|(place, (row, &speed))| row::state(network, place, row, speed))
+        .zip(stored)
+        .map(|(place, (words, &speed))| state::read(network, place, words, speed))
 }
 
 fn totals(words: &[u64]) -> [u64; 4] {

@@ -1,10 +1,10 @@
 //! A whole study in lent arrays: network, run count, marks of the slots, the
 //! live case and the held ones.
 //!
-//! Word 2560 is the run count and word 2560 + k the mark of slot k, 0 for
-//! empty and 1 for filled. Case k (0 is the live one) has 16n + 8 words from
-//! word 2576 + k(16n + 8) on and n speeds from speed kn on. An empty slot's
-//! words and speeds are not read.
+//! Word 2560 is the run count, word 2560 + k the mark of slot k, 0 for empty
+//! and 1 for filled, and word 2575 the arrangement number. Case k (0 is the
+//! live one) has 16n + 8 words from word 2576 + k(16n + 8) on and n speeds from
+//! speed kn on. An empty slot's words and speeds are not read.
 
 mod calls;
 mod places;
@@ -19,6 +19,7 @@ use crate::stored;
 use crate::stored_case;
 pub use calls::call;
 use places::Places;
+pub use places::ARRANGEMENT;
 
 /// Everything that the arrays of a sound study hold.
 #[derive(Clone, Debug, PartialEq)]
@@ -99,9 +100,12 @@ fn judge(words: &[u64], speeds: &[f64]) -> Result<Judged, u8> {
 }
 
 fn judged(words: &[u64], speeds: &[f64]) -> Option<Judged> {
-    let network = stored::parse(words).ok()?;
+    let network = stored::read(words)?;
     let places = Places::of(network.segments.len());
     if words.len() < places.words() || speeds.len() < places.speeds() {
+        return None;
+    }
+    if words[places::ARRANGEMENT_AT] != ARRANGEMENT {
         return None;
     }
     let runs = words[places::RUNS_AT];

@@ -1,6 +1,7 @@
 /* The listing of document 01 through the C interface: its network file is built in memory, a study is started on it, and
  * both steps are made. Then come the slots, refusals and Write. Every difference is a line on standard error; the exit
- * status is 0 where there is none. The arrays are exactly as long as one segment needs. */
+ * status is 0 where there is none. The arrays are exactly as long as one segment needs; the speed of an empty slot is a
+ * NaN whose bits no call may change. */
 #include "engine.h"
 
 #include <inttypes.h>
@@ -11,6 +12,8 @@
 #define FILE_BYTES (16 + 804 + 16)
 #define WORDS (2576 + 7 * (16 + 8))
 #define SPEEDS 7
+#define ARRANGEMENT 2575        /* the word of the arrangement number */
+#define EMPTY 3                 /* a slot that stays empty */
 
 typedef struct {
     uint64_t *words;
@@ -57,8 +60,9 @@ static void build_file(uint8_t *file)
 
 static uint64_t start(Study study, size_t words_len, uint32_t speed)
 {
-    const uint32_t mvs[1] = {20000}, starts[1] = {speed}, queues[1] = {5000};
-    return study_start(study.words, words_len, study.speeds, SPEEDS, study.file, FILE_BYTES, mvs, 1, starts, 1, queues, 1);
+    const uint32_t mvs[1] = {20000}, initial_speeds[1] = {speed}, queues[1] = {5000};
+    return study_start(study.words, words_len, study.speeds, SPEEDS, study.file, FILE_BYTES, mvs, 1, initial_speeds, 1,
+                       queues, 1);
 }
 
 static uint64_t step(Study study, uint32_t arrival)
@@ -124,6 +128,7 @@ static void tallies(Study study)
 {
     expect("start", start(study, WORDS, 90000), 0);
     expect("sound", study_sound(study.words, WORDS, study.speeds, SPEEDS), 0);
+    expect("arrangement number", study.words[ARRANGEMENT], 1);
     expect_case(study, 0, listing[0]);
     expect("step 1", step(study, 4000), 0);
     expect_case(study, 0, listing[1]);
@@ -195,6 +200,16 @@ static void signs(Study study)
     expect_segment(study, 97500.0 + 0.5 * (63000.0 - 97500.0), 5717, 0);
 }
 
+/* A study of another arrangement is none of this engine's. */
+static void arrangement(Study study)
+{
+    study.words[ARRANGEMENT] = 2;
+    expect("sound, another arrangement", study_sound(study.words, WORDS, study.speeds, SPEEDS), 12);
+    expect("step, another arrangement", step(study, 0), 12);
+    study.words[ARRANGEMENT] = 1;
+    expect("sound again", study_sound(study.words, WORDS, study.speeds, SPEEDS), 0);
+}
+
 /* The network comes back as the file it came from; a byte too few is 24. */
 static void writing(Study study)
 {
@@ -210,6 +225,8 @@ static void writing(Study study)
 int main(void)
 {
     Study study = {lend(WORDS * sizeof(uint64_t)), lend(SPEEDS * sizeof(double)), lend(FILE_BYTES)};
+    const uint64_t no_number = 0x7ff0deadfeedbeef;
+    memcpy(study.speeds + EMPTY, &no_number, sizeof no_number);
     build_file(study.file);
     expect("check", network_check(study.file, FILE_BYTES), 0);
     expect("step before start", step(study, 0), 12);
@@ -217,7 +234,9 @@ int main(void)
     slots(study);
     refusals(study);
     signs(study);
+    arrangement(study);
     writing(study);
+    expect("NaN in an empty slot", (uint64_t)memcmp(study.speeds + EMPTY, &no_number, sizeof no_number), 0);
     free(study.words);
     free(study.speeds);
     free(study.file);

@@ -1,7 +1,7 @@
 //! The same calls asked of the oracle: of its book, or on arrays.
 
 use super::{Answer, Call, Start};
-use oracle::book::{self, Book, CaseReport, Lengths, SegmentReport};
+use oracle::book::{self, Book, Figures, Lengths};
 use oracle::{file, study};
 
 /// A call on arrays that hold a study, or anything.
@@ -9,12 +9,12 @@ pub fn ask_arrays(words: &mut [u64], speeds: &mut [f64], call: &Call) -> Answer 
     let mut answer = Answer::lent(call);
     let result = match call {
         Call::Sound => match study::number(words, speeds) {
-            0 => Ok(book::Answer::Done),
+            0 => Ok(Figures::new()),
             number => Err(number),
         },
         Call::Write { room } => study::write(words, speeds, *room).map(|file| {
             answer.give_bytes(&file);
-            book::Answer::Done
+            Figures::new()
         }),
         _ => study::call(words, speeds, &oracle_call(call)),
     };
@@ -25,10 +25,10 @@ pub fn ask_arrays(words: &mut [u64], speeds: &mut [f64], call: &Call) -> Answer 
 pub fn ask_book(book: &mut Book, call: &Call) -> Answer {
     let mut answer = Answer::lent(call);
     let result = match call {
-        Call::Sound => Ok(book::Answer::Done),
+        Call::Sound => Ok(Figures::new()),
         Call::Write { .. } => {
             answer.give_bytes(&file::write(book.network()));
-            Ok(book::Answer::Done)
+            Ok(Figures::new())
         }
         _ => book.call(&oracle_call(call)),
     };
@@ -40,12 +40,9 @@ pub fn begin_book(lengths: Lengths, start: &Start) -> Result<Book, u8> {
     Book::start(lengths, &oracle_start(start))
 }
 
-fn complete(mut answer: Answer, result: Result<book::Answer, u8>) -> Answer {
+fn complete(mut answer: Answer, result: Result<Figures, u8>) -> Answer {
     match result {
-        Ok(book::Answer::Done) => {}
-        Ok(book::Answer::Case(report)) => answer.give(&case_figures(&report)),
-        Ok(book::Answer::Segment(report)) => answer.give(&segment_figures(&report)),
-        Ok(book::Answer::Runs(runs)) => answer.give(&[runs]),
+        Ok(figures) => answer.give(&figures),
         Err(number) => answer.number = u64::from(number),
     }
     answer
@@ -69,9 +66,10 @@ fn oracle_call(call: &Call) -> book::Call<'_> {
         Call::Hold(slot) => book::Call::Hold { slot },
         Call::Recall(slot) => book::Call::Recall { slot },
         Call::Drop(slot) => book::Call::Drop { slot },
-        Call::Report { case, .. } => book::Call::ReportCase { case },
-        Call::ReportSegment { case, segment, .. } => book::Call::ReportSegment { case, segment },
-        Call::RunCount { .. } | Call::Sound | Call::Write { .. } => book::Call::ReportRuns,
+        Call::Question {
+            case, ref question, ..
+        } => book::Call::Question { case, question },
+        Call::RunCount { .. } | Call::Sound | Call::Write { .. } => book::Call::RunCount,
     }
 }
 
@@ -82,27 +80,4 @@ fn oracle_start(start: &Start) -> book::Start<'_> {
         speeds: &start.speeds,
         queues: &start.queues,
     }
-}
-
-fn case_figures(report: &CaseReport) -> [u64; 6] {
-    [
-        report.steps,
-        report.in_segments,
-        report.in_queues,
-        report.arrivals,
-        report.exits,
-        report.time,
-    ]
-}
-
-fn segment_figures(report: &SegmentReport) -> [u64; 7] {
-    [
-        report.count,
-        report.whole_speed,
-        report.speed_bits,
-        report.queue,
-        report.last_outflow,
-        report.last_release,
-        report.rate,
-    ]
 }

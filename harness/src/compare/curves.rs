@@ -3,9 +3,10 @@
 use super::{Difference, BUFFER};
 use crate::damages::{in_turn, FILE};
 use crate::draft::{Draft, CURVE, HEAD};
-use crate::engine;
+use crate::engine::asked;
 use crate::networks::{network, ANY};
 use crate::random::Random;
+use crate::reached;
 use oracle::file;
 
 /// Curve numbers to ask for beside 0..=9: ends of number widths.
@@ -22,6 +23,10 @@ pub fn one(random: &mut Random, index: u64) -> Result<(), Difference> {
         let place = damage.place(&draft.network, random);
         (damage.apply)(&mut draft, place, random);
         file_number = damage.number;
+        if random.once_in(10) {
+            draft.bytes.truncate(random.below(HEAD as u64) as usize);
+            file_number = 1;
+        }
     }
     for curve in (0..=9).chain(FAR) {
         let expected = match file_number {
@@ -44,10 +49,11 @@ pub fn expect_agreement(file: &[u8], curve: u64, random: &mut Random) -> Result<
 
 /// Both sides give file and curve number the expected number.
 fn numbers(file: &[u8], curve: u64, expected: u64) -> Result<(), Difference> {
-    let engine = engine::curve_number(file, curve);
+    let (function, engine) = asked!(network_curve_number(file, curve));
     let oracle = u64::from(file::curve_number(file, curve));
     let place = (expected == 0).then(|| (HEAD + CURVE * curve as usize, CURVE));
     if engine == expected && oracle == expected && file::curve(file, curve) == place {
+        reached::note(function, engine);
         return Ok(());
     }
     Err(Difference {
@@ -72,7 +78,7 @@ fn places(file: &[u8], curve: u64, number: u64, random: &mut Random) -> Result<(
             expected[1] = CURVE as u64;
         }
         let mut place = before;
-        let engine = engine::curve(file, curve, &mut place);
+        let (function, engine) = asked!(network_curve(file, curve, &mut place));
         if engine != answer || place != expected {
             return Err(Difference {
                 what: format!(
@@ -82,6 +88,7 @@ fn places(file: &[u8], curve: u64, number: u64, random: &mut Random) -> Result<(
                 input: file.to_vec(),
             });
         }
+        reached::note(function, engine);
     }
     Ok(())
 }

@@ -3,8 +3,8 @@
 
 use super::both::Both;
 use super::Difference;
+use crate::arrays::Arrays;
 use crate::calls::{ask_book, begin_book, Answer, Call};
-use crate::study::Arrays;
 use oracle::book::{Book, Lengths};
 use oracle::study::{self, Study};
 

@@ -1,16 +1,17 @@
-//! Lines of many steps: signs and meters are changed in the arrays between
-//! steps, and the arrays are compared after every one. The expected arrays
+//! Lines of many steps from a Start on: signs and meters are set between
+//! steps, and the arrays are compared after every call. The expected arrays
 //! are laid out from the oracle's typed case.
 
-use super::case_step::{expect, expect_number, Left, Lent};
+mod line;
+
 use super::Difference;
+use crate::calls::{Call, Start};
 use crate::cases::{self, set_any, sign, MOST_ARRIVING, MOST_STEPS};
 use crate::networks::{calm_road, road};
 use crate::random::Random;
-use crate::single::{put_case, Single};
-use oracle::case::Case;
-use oracle::file::Network;
-use oracle::step;
+use line::Line;
+use oracle::case::Sign;
+use oracle::file::{self, Network};
 
 /// Steps of one line.
 const STEPS: u64 = 2_000;
@@ -26,44 +27,74 @@ pub fn one(random: &mut Random, index: u64) -> Result<(), Difference> {
         2 => road(random, segments),
         _ => calm_road(random, segments),
     };
-    let case = start(random, &network);
-    let mut single = Single::new(network, case, random);
+    let start = start(random, &network);
+    let mut line = Line::begin(random, network, start)?;
+    // The last step may be the last that any line has.
+    line.put_steps(random.edge(0, MOST_STEPS - STEPS));
     let most = random.one_of(&[3_000, 30_000, MOST_ARRIVING]);
     for turn in 1..=STEPS {
-        change(random, &mut single);
-        let arrivals = arrivals(random, &single.stored.network, most);
-        if random.once_in(40) {
-            refused(random, &single, &arrivals)?;
-        }
         let what = format!("step {turn} of a line of {segments} segments");
-        take(&mut single, &arrivals, &what)?;
+        next(random, &mut line, most).map_err(|difference| difference.of(&what))?;
     }
-    end(&single)
+    line.end()
 }
 
-/// A case within the bounds for the whole line. Its last step may be the
-/// last that any line has.
-fn start(random: &mut Random, network: &Network) -> Case {
-    let mut case = cases::calm(random, network);
-    case.steps = random.edge(0, MOST_STEPS - STEPS);
-    (case.arrivals, case.exits, case.time) = (0, 0, 0);
-    for state in &mut case.segments {
-        state.queue = state.queue.min(MOST_ARRIVING);
+/// One step, perhaps with a change and a refused step before it.
+fn next(random: &mut Random, line: &mut Line, most: u64) -> Result<(), Difference> {
+    if let Some(call) = change(random, line) {
+        line.take(call)?;
     }
-    case
+    let arrivals = arrivals(random, &line.network, most);
+    if random.once_in(40) {
+        refused(random, line, &arrivals)?;
+    }
+    line.take(Call::Step(arrivals.into()))
+}
+
+/// Segments that are about equally full and equally fast.
+fn start(random: &mut Random, network: &Network) -> Start {
+    let mut start = Start {
+        file: file::write(network).into(),
+        counts: Vec::new(),
+        speeds: Vec::new(),
+        queues: Vec::new(),
+    };
+    let calm = cases::calm(random, network);
+    for (state, segment) in calm.segments.iter().zip(&network.segments) {
+        let full = u64::from(segment.jam) * segment.lane_metres();
+        start.counts.push(state.count.min(full));
+        start.speeds.push(state.speed as u64);
+        let waiting = if segment.origin { MOST_ARRIVING } else { 0 };
+        start.queues.push(state.queue.min(waiting));
+    }
+    start
 }
 
 /// Now and then another sign or another setting somewhere.
-fn change(random: &mut Random, single: &mut Single) {
-    let place = random.below(single.n() as u64) as usize;
-    let segment = &single.stored.network.segments[place];
-    let state = &mut single.case.segments[place];
+fn change(random: &mut Random, line: &Line) -> Option<Call> {
+    let place = random.below(line.network.segments.len() as u64) as usize;
+    let network = &line.network.segments[place];
+    let segment = place as u64 + 1;
     match random.below(12) {
-        0 => state.sign = sign(random),
-        1 if place > 0 && segment.origin => set_any(random, segment, state),
-        _ => return,
+        0 => {
+            let (limit, compliance) = match sign(random) {
+                Sign::Dark => (0, 0),
+                Sign::Shown { limit, compliance } => (limit, compliance),
+            };
+            Some(Call::Sign {
+                segment,
+                limit,
+                compliance,
+            })
+        }
+        1 if place > 0 && network.origin => {
+            let mut state = line.case.segments[place].clone();
+            set_any(random, network, &mut state);
+            let setting = state.setting;
+            Some(Call::Meter { segment, setting })
+        }
+        _ => None,
     }
-    single.put();
 }
 
 /// Up to `most` mv at each origin, none one time in four.
@@ -77,8 +108,8 @@ fn arrivals(random: &mut Random, network: &Network, most: u64) -> Vec<u32> {
     origins.map(&mut arriving).collect()
 }
 
-/// A call that is refused in between changes nothing.
-fn refused(random: &mut Random, single: &Single, arrivals: &[u32]) -> Result<(), Difference> {
+/// A step that is refused in between changes nothing.
+fn refused(random: &mut Random, line: &mut Line, arrivals: &[u32]) -> Result<(), Difference> {
     let mut arrivals = arrivals.to_vec();
     let number = match random.once_in(2) {
         true => {
@@ -91,30 +122,5 @@ fn refused(random: &mut Random, single: &Single, arrivals: &[u32]) -> Result<(),
             15
         }
     };
-    let what = "a refused step on a line";
-    expect_number(Lent::of(single, &arrivals), number, what)?;
-    Ok(())
-}
-
-/// One step, typed and on the arrays.
-fn take(single: &mut Single, arrivals: &[u32], what: &str) -> Result<(), Difference> {
-    step::step(&single.stored.network, &mut single.case, arrivals);
-    let mut expected = Left {
-        number: 0,
-        words: single.stored.words.clone(),
-        speeds: single.speeds.clone(),
-    };
-    put_case(&single.case, &mut expected.words, &mut expected.speeds);
-    expect(Lent::of(single, arrivals), &expected, what)?;
-    (single.stored.words, single.speeds) = (expected.words, expected.speeds);
-    Ok(())
-}
-
-/// A line of 20,000 steps has no other.
-fn end(single: &Single) -> Result<(), Difference> {
-    if single.case.steps == MOST_STEPS {
-        let none = vec![0; single.n()];
-        expect_number(Lent::of(single, &none), 16, "step 20,001 of a line")?;
-    }
-    Ok(())
+    line.refuse(Call::Step(arrivals.into()), number)
 }

@@ -83,7 +83,7 @@ impl List {
         Scene {
             network: book.map_or(&self.networks[0], Book::network),
             filled: std::array::from_fn::<_, SLOTS, _>(filled),
-            starts: &self.networks,
+            brought: &self.networks,
         }
     }
 }

@@ -2,9 +2,8 @@
 //! the start case, until 1,000,000 steps have been accepted since Start.
 
 use super::Difference;
-use crate::calls::{ask_book, begin_book, good_start, Answer, Call};
+use crate::calls::{ask_book, ask_engine, begin_book, good_start, Answer, Call};
 use crate::cases::MOST_STEPS;
-use crate::engine;
 use crate::networks::calm_road;
 use crate::random::Random;
 use crate::reached;
@@ -31,7 +30,8 @@ pub fn one(random: &mut Random, _: u64) -> Result<(), Difference> {
         speeds: vec![0.0; speeds],
         book,
     };
-    let answer = engine::study::ask(&mut long.words, &mut long.speeds, &Call::Start(start));
+    let start = Call::Start(start);
+    let (_, answer) = ask_engine(&mut long.words, &mut long.speeds, &start);
     expect(&answer, 0)?;
     long.take(Call::Hold(1), 0)?;
     for _ in 0..MOST_RUNS / MOST_STEPS {
@@ -54,10 +54,10 @@ fn step(random: &mut Random) -> Call {
 impl Long {
     /// Engine and book answer this number.
     fn take(&mut self, call: Call, number: u64) -> Result<(), Difference> {
-        let engine = engine::study::ask(&mut self.words, &mut self.speeds, &call);
+        let (function, engine) = ask_engine(&mut self.words, &mut self.speeds, &call);
         expect(&engine, number)?;
         expect(&ask_book(&mut self.book, &call), number)?;
-        reached::note(&call, number);
+        reached::note(function, number);
         Ok(())
     }
 

@@ -1,11 +1,14 @@
-//! Accepted steps of any sound case: each is taken, and then a second one.
+//! Accepted steps of any sound case, live in a study: each is taken, and then
+//! a second one.
 
-use super::case_step::{expect_agreement, expect_number, Lent};
+use super::both::Both;
 use super::Difference;
+use crate::calls::Call;
 use crate::cases::{self, arrivals};
+use crate::made::fill_slots;
 use crate::networks::{calm_road, road};
 use crate::random::Random;
-use crate::single::Single;
+use crate::study::{Study, MOST_RUNS};
 
 /// Numbers of segments that come up often.
 const OFTEN: [u64; 4] = [1, 2, 12, 40];
@@ -15,28 +18,35 @@ pub fn one(random: &mut Random, index: u64) -> Result<(), Difference> {
         Some(&segments) => segments,
         None => random.between(1, 40),
     };
-    let (mut single, mood) = match index / 5 % 2 {
+    let (mut study, mood) = match index / 5 % 2 {
         0 => (wild(random, segments), "wild"),
         _ => (calm(random, segments), "calm"),
     };
-    let what = format!("a step of a {mood} case of {segments} segments");
-    let first = arrivals(random, &single.stored.network);
-    let left = expect_number(Lent::of(&single, &first), 0, &what)?;
+    if random.once_in(8) {
+        fill_slots(random, &mut study);
+    }
+    let what = format!("a {mood} case of {segments} segments");
+    take(random, &study).map_err(|difference| difference.of(&what))
+}
+
+fn take(random: &mut Random, study: &Study) -> Result<(), Difference> {
+    let mut both = Both::new(study.laid(random));
+    let first = arrivals(random, &study.network);
+    both.expect(Call::Step(first.into()), 0)?;
     // The first step may bring the case past a bound: then this one is 12.
-    (single.stored.words, single.speeds) = (left.words, left.speeds);
-    let second = arrivals(random, &single.stored.network);
-    expect_agreement(Lent::of(&single, &second), &format!("{what}, the second"))?;
+    let second = arrivals(random, &study.network);
+    both.take(Call::Step(second.into()))?;
     Ok(())
 }
 
-fn wild(random: &mut Random, segments: u64) -> Single {
+fn wild(random: &mut Random, segments: u64) -> Study {
     let network = road(random, segments);
     let case = cases::wild(random, &network);
-    Single::new(network, case, random)
+    Study::live(network, random.edge(0, MOST_RUNS - 1), case)
 }
 
-fn calm(random: &mut Random, segments: u64) -> Single {
+fn calm(random: &mut Random, segments: u64) -> Study {
     let network = calm_road(random, segments);
     let case = cases::calm(random, &network);
-    Single::new(network, case, random)
+    Study::live(network, random.edge(0, MOST_RUNS - 1), case)
 }

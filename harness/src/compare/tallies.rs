@@ -1,12 +1,14 @@
-//! The paper's listing through `case_step`: both steps, every figure.
+//! The paper's listing in a study's arrays: both steps, every figure.
 
-use super::case_step::{expect_number, Lent};
+use super::both::Both;
 use super::Difference;
+use crate::arrays::Arrays;
+use crate::calls::{Call, Start};
 use crate::random::Random;
-use crate::single::{row_word, Single};
-use crate::single::{ARRIVALS, COUNT, EXITS, LAST_OUTFLOW, LAST_RELEASE, QUEUE, RATE, STEPS, TIME};
-use oracle::case::Case;
-use oracle::file::{Network, Segment};
+use crate::stored_case::{state_word, total_word};
+use crate::stored_case::{COUNT, LAST_OUTFLOW, LAST_RELEASE, QUEUE, RATE, STEPS};
+use crate::study::{case_word, speeds_for, words_for, RUNS};
+use oracle::file::{self, Network, Segment};
 use oracle::network::ENTRIES;
 
 /// The network of the listing.
@@ -31,28 +33,28 @@ fn network() -> Network {
     }
 }
 
-/// One row of the listing, and what the step to it made.
-struct Row {
+/// One line of the listing, and what the step to it made.
+struct Listed {
     /// mv that arrive in the step.
     arriving: u32,
     /// steps, segments, queues, arrivals, exits, time.
-    listed: [u64; 6],
+    figures: [u64; 6],
     speed: f64,
     outflow: u64,
     release: u64,
 }
 
-const ROWS: [Row; 2] = [
-    Row {
+const LISTING: [Listed; 2] = [
+    Listed {
         arriving: 4_000,
-        listed: [1, 16_000, 3_000, 4_000, 10_000, 250_000],
+        figures: [1, 16_000, 3_000, 4_000, 10_000, 250_000],
         speed: 95_000.0,
         outflow: 10_000,
         release: 6_000,
     },
-    Row {
+    Listed {
         arriving: 0,
-        listed: [2, 10_556, 0, 4_000, 18_444, 440_000],
+        figures: [2, 10_556, 0, 4_000, 18_444, 440_000],
         speed: 97_500.0,
         outflow: 8_444,
         release: 3_000,
@@ -60,38 +62,39 @@ const ROWS: [Row; 2] = [
 ];
 
 pub fn one(random: &mut Random, _: u64) -> Result<(), Difference> {
-    let network = network();
-    let case = Case::start(&network, &[20_000], &[90_000], &[5_000]);
-    let mut single = Single::new(network, case, random);
-    for row in &ROWS {
-        let mut expected = single.stored.words.clone();
-        put_row(&mut expected, &single, row);
-        let arrivals = [row.arriving];
-        let lent = Lent::of(&single, &arrivals);
-        let left = expect_number(lent, 0, "the listing")?;
-        if left.words != expected || left.speeds[0] != row.speed {
-            return Err(lent.differs("the oracle is not as the paper's listing".into()));
+    let arrays = Arrays::garbage(random, words_for(1), speeds_for(1), true);
+    let mut both = Both::new(arrays);
+    let start = Start {
+        file: file::write(&network()).into(),
+        counts: vec![20_000],
+        speeds: vec![90_000],
+        queues: vec![5_000],
+    };
+    both.expect(Call::Start(start), 0)?;
+    for listed in &LISTING {
+        let mut expected = both.lent().0.to_vec();
+        listed.put(&mut expected);
+        both.expect(Call::Step([listed.arriving].into()), 0)?;
+        let (words, speeds) = both.lent();
+        if words != expected || speeds[0].to_bits() != listed.speed.to_bits() {
+            return Err(both.differs("both sides differ from the paper's listing"));
         }
-        (single.stored.words, single.speeds) = (left.words, left.speeds);
     }
     Ok(())
 }
 
-/// The figures after the step, each at its word.
-fn put_row(words: &mut [u64], single: &Single, row: &Row) {
-    let [steps, segments, queues, arrivals, exits, time] = row.listed;
-    let figures = [
-        (row_word(0, COUNT), segments),
-        (row_word(0, QUEUE), queues),
-        (row_word(0, RATE), 6_000),
-        (row_word(0, LAST_OUTFLOW), row.outflow),
-        (row_word(0, LAST_RELEASE), row.release),
-        (single.total_word(STEPS), steps),
-        (single.total_word(ARRIVALS), arrivals),
-        (single.total_word(EXITS), exits),
-        (single.total_word(TIME), time),
-    ];
-    for (word, figure) in figures {
-        words[word] = figure;
+impl Listed {
+    /// The figures after the step, each at its word.
+    fn put(&self, words: &mut [u64]) {
+        let [steps, segments, queues, arrivals, exits, time] = self.figures;
+        words[RUNS] = steps;
+        let case = &mut words[case_word(1, 0)..];
+        case[state_word(0, COUNT)] = segments;
+        case[state_word(0, QUEUE)] = queues;
+        case[state_word(0, RATE)] = 6_000;
+        case[state_word(0, LAST_OUTFLOW)] = self.outflow;
+        case[state_word(0, LAST_RELEASE)] = self.release;
+        let totals = [steps, arrivals, exits, time];
+        case[total_word(1, STEPS)..][..totals.len()].copy_from_slice(&totals);
     }
 }

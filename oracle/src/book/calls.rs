@@ -1,6 +1,6 @@
 //! The calls on a study and their answers.
 
-use super::{CaseReport, SegmentReport};
+use super::Question;
 use crate::case::Setting;
 
 /// Lengths of the two arrays that the caller lends.
@@ -52,23 +52,14 @@ pub enum Call<'a> {
     Drop {
         slot: u64,
     },
-    ReportCase {
+    Question {
         case: u64,
+        question: &'a Question,
     },
-    ReportSegment {
-        case: u64,
-        segment: u64,
-    },
-    ReportRuns,
+    /// Accepted steps since Start.
+    RunCount,
 }
 
-/// What an accepted call gives.
-#[derive(Clone, Debug, PartialEq)]
-pub enum Answer {
-    /// The call gives no figures.
-    Done,
-    Case(CaseReport),
-    Segment(SegmentReport),
-    /// Accepted steps since Start.
-    Runs(u64),
-}
+/// What an accepted call gives: figures in the paper's order, none where it
+/// only changes the study.
+pub type Figures = Vec<u64>;

@@ -1,8 +1,8 @@
 //! The calls on a study, done in its arrays.
 
-use super::places::{mark_at, Places, MARKS_WORDS, RUNS_AT};
-use super::{judge, Judged};
-use crate::book::{rows, Answer, Call, CaseReport, Lengths, SegmentReport, Start};
+use super::places::{mark_at, Places, ARRANGEMENT_AT, MARKS_WORDS, RUNS_AT};
+use super::{judge, Judged, ARRANGEMENT};
+use crate::book::{rows, Call, Figures, Lengths, Start};
 use crate::case::{Case, Setting, Sign};
 use crate::file;
 use crate::step::step;
@@ -10,7 +10,7 @@ use crate::stored;
 use crate::stored_case;
 
 /// Takes one call. A refused call changes nothing.
-pub fn call(words: &mut [u64], speeds: &mut [f64], call: &Call) -> Result<Answer, u8> {
+pub fn call(words: &mut [u64], speeds: &mut [f64], call: &Call) -> Result<Figures, u8> {
     if let Call::Start(begin) = call {
         return start(words, speeds, begin);
     }
@@ -32,16 +32,18 @@ pub fn call(words: &mut [u64], speeds: &mut [f64], call: &Call) -> Result<Answer
         Call::Hold { slot } => arrays.hold(slot)?,
         Call::Recall { slot } => arrays.recall(slot)?,
         Call::Drop { slot } => arrays.drop_slot(slot)?,
-        Call::ReportCase { case } => return arrays.report_case(case),
-        Call::ReportSegment { case, segment } => return arrays.report_segment(case, segment),
-        Call::ReportRuns => return Ok(Answer::Runs(arrays.study.runs)),
+        Call::Question { case, question } => {
+            let case = arrays.case(case)?;
+            return question.answer(&arrays.study.network, &case);
+        }
+        Call::RunCount => return Ok(vec![arrays.study.runs]),
     }
-    Ok(Answer::Done)
+    Ok(Figures::new())
 }
 
-/// Start stores network, run count, marks and live case; their free words
-/// become 0. The slots' words and speeds stay.
-fn start(words: &mut [u64], speeds: &mut [f64], start: &Start) -> Result<Answer, u8> {
+/// Start stores network, run count, marks, arrangement number and live case;
+/// their free words become 0. The slots' words and speeds stay.
+fn start(words: &mut [u64], speeds: &mut [f64], start: &Start) -> Result<Figures, u8> {
     let lengths = Lengths {
         words: words.len(),
         speeds: speeds.len(),
@@ -52,9 +54,10 @@ fn start(words: &mut [u64], speeds: &mut [f64], start: &Start) -> Result<Answer,
     let places = Places::of(network.segments.len());
     stored::put(&network, words);
     words[RUNS_AT..][..MARKS_WORDS].fill(0);
+    words[ARRANGEMENT_AT] = ARRANGEMENT;
     let own_speeds = &mut speeds[places.case_speeds(0)];
     stored_case::put(&case, &mut words[places.case_words(0)], own_speeds);
-    Ok(Answer::Done)
+    Ok(Figures::new())
 }
 
 /// The arrays of a sound study.
@@ -121,16 +124,6 @@ impl Arrays<'_> {
         let (_, &case) = rows::judge_filled(&self.study.slots, slot)?;
         self.words[mark_at(case)] = 0;
         Ok(())
-    }
-
-    fn report_case(&self, case: u64) -> Result<Answer, u8> {
-        Ok(Answer::Case(CaseReport::of(&self.case(case)?)))
-    }
-
-    fn report_segment(&self, case: u64, segment: u64) -> Result<Answer, u8> {
-        let case = self.case(case)?;
-        let place = rows::judge_segment(&self.study.network, segment)?;
-        Ok(Answer::Segment(SegmentReport::of(&case.segments[place])))
     }
 
     /// Case 0 (live) or 1..6, by rows 21 and 23.

@@ -5,10 +5,16 @@ use crate::stored::NETWORK_WORDS;
 use crate::stored_case::case_words;
 use std::ops::Range;
 
+/// The number of this arrangement. It rises when anything moves in the arrays,
+/// so that an older study is not taken for one of these.
+pub const ARRANGEMENT: u64 = 1;
+
 /// The word of the run count.
 pub const RUNS_AT: usize = NETWORK_WORDS;
-/// Words of run count and marks, the free ones among them.
+/// Words of run count, marks and arrangement number, with free ones between.
 pub const MARKS_WORDS: usize = 16;
+/// The word of the arrangement number.
+pub const ARRANGEMENT_AT: usize = CASES_AT - 1;
 /// The first word of the live case.
 const CASES_AT: usize = NETWORK_WORDS + MARKS_WORDS;
 

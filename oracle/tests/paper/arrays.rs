@@ -1,96 +1,100 @@
-//! A network and a case in arrays, laid out apart from the oracle's code.
+//! Calls on a study in lent arrays: what they store, beside the book.
 
-use oracle::case::{Alinea, Case, Setting, Sign};
-use oracle::network::Network;
-use oracle::single;
+use crate::lent::{Lent, FREE, FREE_SPEED};
+use crate::lines::{random, with_call};
+use crate::networks;
+use crate::study::{ask, book, step};
+use oracle::book::{Call, Question};
+use oracle::file;
+use oracle::study::{self, Study};
 
-/// What stands in words and speeds that no one reads.
-pub const FREE: u64 = 0xfeed_beef;
-/// Words and speeds past the lengths that are needed.
-const PAST: usize = 3;
-
-pub struct Arrays {
-    pub words: Vec<u64>,
-    pub speeds: Vec<f64>,
+/// Random calls: every answer is the book's, a refused call changes nothing,
+/// and the arrays hold what the book says.
+#[test]
+fn arrays_follow_the_book() {
+    let (mut book, mut lent) = (book(), Lent::started());
+    let mut state = 7_u64;
+    for _ in 0..3_000 {
+        let before = lent.bits();
+        let number = random(&mut state);
+        let answer = with_call(number, |call| {
+            let answer = lent.call(call);
+            assert_eq!(answer, book.call(call), "{call:?}");
+            answer
+        });
+        assert!(answer.is_ok() || lent.bits() == before);
+        assert_eq!(
+            study::read(&lent.words, &lent.speeds),
+            Ok(Study::of_book(&book))
+        );
+        for case in 0..=7 {
+            let report = ask(case, &Question::Case);
+            assert_eq!(lent.call(&report), book.call(&report));
+        }
+    }
+    assert!(book.runs() > 1_000);
+    assert_eq!(lent.words[2575], 1);
+    lent.assert_past();
 }
 
-impl Arrays {
-    /// The network and the case, laid out word by word.
-    pub fn new(network: &Network, case: &Case) -> Arrays {
-        let n = network.segments.len();
-        let mut arrays = Arrays {
-            words: vec![FREE; 2560 + 16 * n + 8 + PAST],
-            speeds: vec![f64::from_bits(FREE); n + PAST],
-        };
-        arrays.lay_network(network);
-        arrays.lay_case(case);
-        arrays
-    }
-
-    fn lay_network(&mut self, network: &Network) {
-        self.lay(0, [u64::from(network.step), network.segments.len() as u64]);
-        self.lay(2, [network.curves.len() as u64]);
-        self.lay(3, [network.relaxation, network.anticipation, network.kappa]);
-        self.lay(6, [network.merging]);
-        for (curve, entries) in network.curves.iter().enumerate() {
-            self.lay(16 + 201 * curve, *entries);
-        }
-        for (place, segment) in network.segments.iter().enumerate() {
-            let at = 1624 + 16 * place;
-            self.lay(at, [segment.length, segment.lanes.into()]);
-            self.lay(at + 2, [segment.curve, segment.critical, segment.jam]);
-            self.lay(at + 5, [u16::from(segment.origin), segment.exit_share]);
-            self.lay(at + 7, [segment.most_released]);
-        }
-    }
-
-    fn lay_case(&mut self, case: &Case) {
-        for (place, state) in case.segments.iter().enumerate() {
-            let at = 2560 + 16 * place;
-            self.lay(at, [state.count, state.queue]);
-            self.lay(at + 2, sign_words(state.sign));
-            self.lay(at + 4, setting_words(state.setting, state.rate));
-            self.lay(at + 10, [state.last_outflow, state.last_release]);
-            self.speeds[place] = state.speed;
-        }
-        let at = 2560 + 16 * case.segments.len();
-        self.lay(at, [case.steps, case.arrivals, case.exits, case.time]);
-    }
-
-    fn lay<Number: Into<u64>, const COUNT: usize>(&mut self, at: usize, list: [Number; COUNT]) {
-        let words = list.map(Number::into);
-        self.words[at..at + COUNT].copy_from_slice(&words);
-    }
-
-    pub fn step(&mut self, arrivals: &[u32]) -> u8 {
-        single::step(&mut self.words, &mut self.speeds, arrivals)
-    }
-
-    pub fn bits(&self) -> (Vec<u64>, Vec<u64>) {
-        let speeds = self.speeds.iter().map(|speed| speed.to_bits());
-        (self.words.clone(), speeds.collect())
-    }
+/// Every word that Start stores, by hand; a slot's words and speeds stay.
+#[test]
+fn start_word_by_word() {
+    let lent = Lent::tallies();
+    let mut expected = vec![0; 2576 + 24];
+    expected[..6].copy_from_slice(&[10, 1, 1, 20, 0, 40]);
+    expected[16..217].fill(100_000);
+    expected[1624..1632].copy_from_slice(&[500, 2, 0, 30, 180, 1, 0, 6_000]);
+    expected[2575..2582].copy_from_slice(&[1, 20_000, 5_000, 0, 0, 0, 6_000]);
+    expected.resize(lent.words.len(), FREE);
+    let mut bits = vec![FREE_SPEED; lent.speeds.len()];
+    bits[0] = 90_000_f64.to_bits();
+    assert_eq!(lent.bits(), (expected, bits));
 }
 
-fn sign_words(sign: Sign) -> [u64; 2] {
-    match sign {
-        Sign::Dark => [0, 0],
-        Sign::Shown { limit, compliance } => [limit, (compliance + 500) as u64],
+/// The listing through reports.
+#[test]
+fn the_listing() {
+    let mut lent = Lent::tallies();
+    for (arrivals, listed) in [
+        ([4_000], [1, 16_000, 3_000, 4_000, 10_000, 250_000]),
+        ([0], [2, 10_556, 0, 4_000, 18_444, 440_000]),
+    ] {
+        assert_eq!(lent.number(&step(&arrivals)), 0);
+        let report = lent.call(&ask(0, &Question::Case));
+        assert_eq!(report, Ok(listed.into()));
     }
+    assert_eq!(lent.call(&Call::RunCount), Ok(vec![2]));
 }
 
-fn setting_words(setting: Setting, rate: u64) -> [u64; 6] {
-    match setting {
-        Setting::Open => [0, rate, 0, 0, 0, 0],
-        Setting::Fixed(_) => [1, rate, 0, 0, 0, 0],
-        Setting::Alinea(alinea) => {
-            let Alinea {
-                target,
-                gain,
-                least,
-                interval,
-            } = alinea;
-            [2, rate, target, gain, least, interval]
-        }
-    }
+/// Hold copies every word and speed of the live case and changes one mark,
+/// Drop changes the mark alone.
+#[test]
+fn hold_and_drop_word_by_word() {
+    let mut lent = Lent::started();
+    let case_words = 16 * 3 + 8;
+    lent.words[2576 + 12] = 77;
+    let mut expected = lent.bits();
+    assert_eq!(lent.number(&Call::Hold { slot: 4 }), 0);
+    expected.0[2564] = 1;
+    expected
+        .0
+        .copy_within(2576..2576 + case_words, 2576 + 4 * case_words);
+    expected.1.copy_within(..3, 4 * 3);
+    assert_eq!(lent.bits(), expected);
+    assert_eq!(lent.number(&Call::Drop { slot: 4 }), 0);
+    expected.0[2564] = 0;
+    assert_eq!(lent.bits(), expected);
+}
+
+/// 12 before 24; the file that Start read comes back.
+#[test]
+fn written_networks() {
+    let mut lent = Lent::started();
+    let file = file::write(&networks::three_segments());
+    let written = |lent: &Lent, room| study::write(&lent.words, &lent.speeds, room);
+    assert_eq!(written(&lent, file.len()), Ok(file.clone()));
+    assert_eq!(written(&lent, file.len() - 1), Err(24));
+    lent.words[2560] = 1_000_001;
+    assert_eq!(written(&lent, 0), Err(12));
 }

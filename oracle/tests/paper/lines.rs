@@ -1,24 +1,26 @@
 //! What accepted calls do: lines, slots, run count and reports.
 
 use crate::networks;
-use crate::study::{book, meter, number, sign, step};
+use crate::study::{ask, book, meter, number, sign, step};
 use crate::study::{ALINEA, COUNTS, QUEUES, SPEEDS};
-use oracle::book::{Answer, Book, Call, CaseReport, SegmentReport, Start, SLOTS};
+use oracle::book::{Book, Call, Figures, Question, Start, SLOTS};
 use oracle::case::{Setting, Sign};
 use oracle::file;
 
-fn case_report(book: &mut Book, case: u64) -> CaseReport {
-    match book.call(&Call::ReportCase { case }) {
-        Ok(Answer::Case(report)) => report,
-        other => panic!("no report of case {case}: {other:?}"),
-    }
+fn case_report(book: &mut Book, case: u64) -> Figures {
+    let report = book.call(&ask(case, &Question::Case));
+    report.expect("a report of a case")
 }
 
-fn segment_report(book: &mut Book, case: u64, segment: u64) -> SegmentReport {
-    match book.call(&Call::ReportSegment { case, segment }) {
-        Ok(Answer::Segment(report)) => report,
-        other => panic!("no report of segment {segment}: {other:?}"),
-    }
+/// Of a segment of the live case.
+fn segment_report(book: &mut Book, segment: u64) -> Figures {
+    let report = book.call(&ask(0, &Question::Segment(segment)));
+    report.expect("a report of a segment")
+}
+
+/// R as reported.
+fn rate(book: &mut Book, segment: u64) -> u64 {
+    segment_report(book, segment)[6]
 }
 
 /// All the book holds, to be compared before and after.
@@ -37,27 +39,12 @@ fn assert_replays(book: &Book) {
 #[test]
 fn reports_after_start() {
     let mut book = book();
-    let expected = CaseReport {
-        steps: 0,
-        in_segments: 176_018,
-        in_queues: 12_001,
-        arrivals: 0,
-        exits: 0,
-        time: 0,
-    };
-    assert_eq!(case_report(&mut book, 0), expected);
-    let expected = SegmentReport {
-        count: 61_007,
-        whole_speed: 71_000,
-        speed_bits: 71_000_f64.to_bits(),
-        queue: 9_001,
-        last_outflow: 0,
-        last_release: 0,
-        rate: 5_500,
-    };
-    assert_eq!(segment_report(&mut book, 0, 2), expected);
-    assert_eq!(segment_report(&mut book, 0, 3).rate, 0);
-    assert_eq!(book.call(&Call::ReportRuns), Ok(Answer::Runs(0)));
+    assert_eq!(case_report(&mut book, 0), [0, 176_018, 12_001, 0, 0, 0]);
+    let bits = 71_000_f64.to_bits();
+    let figures = [61_007, 71_000, bits, 9_001, 0, 0, 5_500];
+    assert_eq!(segment_report(&mut book, 2), figures);
+    assert_eq!(rate(&mut book, 3), 0);
+    assert_eq!(book.call(&Call::RunCount), Ok(vec![0]));
 }
 
 /// A refused step's arrivals are not counted, nor anything else of it.
@@ -131,13 +118,13 @@ fn signs_and_meters() {
     let alinea = Setting::Alinea(ALINEA);
     assert_eq!(number(&mut book, meter(2, alinea)), 0);
     assert_eq!(number(&mut book, step(&[0; 3])), 0);
-    assert_eq!(segment_report(&mut book, 0, 2).rate, 3_127);
+    assert_eq!(rate(&mut book, 2), 3_127);
     assert_eq!(number(&mut book, meter(2, alinea)), 0);
-    assert_eq!(segment_report(&mut book, 0, 2).rate, 5_500);
+    assert_eq!(rate(&mut book, 2), 5_500);
     assert_eq!(number(&mut book, meter(2, Setting::Fixed(12))), 0);
-    assert_eq!(segment_report(&mut book, 0, 2).rate, 12);
+    assert_eq!(rate(&mut book, 2), 12);
     assert_eq!(number(&mut book, meter(2, Setting::Open)), 0);
-    assert_eq!(segment_report(&mut book, 0, 2).rate, 5_500);
+    assert_eq!(rate(&mut book, 2), 5_500);
     assert_eq!(number(&mut book, sign(2, 80, 50)), 0);
     assert_eq!(number(&mut book, sign(2, 0, 50)), 0);
     assert_eq!(book.live().case().segments[1].sign, Sign::Dark);

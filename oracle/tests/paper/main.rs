@@ -2,11 +2,13 @@
 
 mod arrays;
 mod file;
-mod held;
+mod laid;
+mod lent;
 mod lines;
 mod networks;
 mod refusals;
-mod single;
 mod sound;
 mod step;
+mod step_in_arrays;
 mod study;
+mod worked;

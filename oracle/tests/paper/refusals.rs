@@ -1,9 +1,9 @@
 //! Every number that refuses a call on a study, and the order of the rows.
 
 use crate::networks;
-use crate::study::{book, meter, number, sign, start, step};
+use crate::study::{ask, book, meter, number, sign, start, step};
 use crate::study::{ALINEA, COUNTS, QUEUES, ROOM, SPEEDS};
-use oracle::book::{Call, Lengths};
+use oracle::book::{Call, Lengths, Question};
 use oracle::case::{Alinea, Setting};
 
 fn start_number(room: Lengths, lists: [&[u64]; 3]) -> u8 {
@@ -107,7 +107,8 @@ fn seventeen_segment_outside() {
     for segment in [0, 4, u64::MAX] {
         assert_eq!(number(&mut book, sign(segment, 1, 501)), 17);
         assert_eq!(number(&mut book, meter(segment, Setting::Open)), 17);
-        let report = |case| Call::ReportSegment { case, segment };
+        let question = Question::Segment(segment);
+        let report = |case| ask(case, &question);
         assert_eq!(number(&mut book, report(0)), 17);
         assert_eq!(number(&mut book, report(7)), 21);
         assert_eq!(number(&mut book, report(6)), 23);
@@ -178,8 +179,8 @@ fn twenty_one_no_such_slot() {
         assert_eq!(number(&mut book, Call::Recall { slot }), 21);
         assert_eq!(number(&mut book, Call::Drop { slot }), 21);
     }
-    assert_eq!(number(&mut book, Call::ReportCase { case: 7 }), 21);
-    assert_eq!(number(&mut book, Call::ReportCase { case: 0 }), 0);
+    assert_eq!(number(&mut book, ask(7, &Question::Case)), 21);
+    assert_eq!(number(&mut book, ask(0, &Question::Case)), 0);
 }
 
 #[test]
@@ -188,7 +189,7 @@ fn twenty_two_and_twenty_three() {
     for slot in 1..=6 {
         assert_eq!(number(&mut book, Call::Recall { slot }), 23);
         assert_eq!(number(&mut book, Call::Drop { slot }), 23);
-        assert_eq!(number(&mut book, Call::ReportCase { case: slot }), 23);
+        assert_eq!(number(&mut book, ask(slot, &Question::Case)), 23);
         assert_eq!(number(&mut book, Call::Hold { slot }), 0);
         assert_eq!(number(&mut book, Call::Hold { slot }), 22);
         assert_eq!(number(&mut book, Call::Drop { slot }), 0);

@@ -1,8 +1,8 @@
 //! "Sound study": what makes arrays 12, and what is not looked at.
 
-use crate::held::Lent;
-use crate::study::{meter, sign, step, ALINEA, ROOM};
-use oracle::book::Call;
+use crate::lent::Lent;
+use crate::study::{ask, meter, sign, step, ALINEA, ROOM};
+use oracle::book::{Call, Question};
 use oracle::case::Setting;
 use oracle::study;
 
@@ -47,8 +47,17 @@ fn run_count_and_marks() {
         assert_eq!(with_word(2560 + slot, 1), expected);
         assert_eq!(with_word(2560 + slot, 0), 0);
     }
-    for free in 2567..2576 {
+    for free in 2567..2575 {
         assert_eq!(with_word(free, u64::MAX), 0);
+    }
+}
+
+/// Arrays of another arrangement are not a study of this one.
+#[test]
+fn arrangement_number() {
+    assert_eq!(lent().words[2575], 1);
+    for number in [0, 2, 3, 1 + (1 << 32), u64::MAX] {
+        assert_eq!(with_word(2575, number), 12);
     }
 }
 
@@ -57,13 +66,13 @@ fn run_count_and_marks() {
 fn cases_that_are_looked_at() {
     for (case, expected) in [(0, 12), (FILLED, 12), (EMPTY, 0)] {
         let at = 2576 + CASE_WORDS * case;
-        let row = at + 16;
-        assert_eq!(with_word(row, 1_000_000_000_001), expected);
-        assert_eq!(with_word(row + 2, 19), expected);
-        assert_eq!(with_word(row + 3, 1_001), expected);
-        assert_eq!(with_word(row + 4, 3), expected);
-        assert_eq!(with_word(row + 5, 399), expected);
-        assert_eq!(with_word(row + 12, u64::MAX), 0);
+        let state = at + 16;
+        assert_eq!(with_word(state, 1_000_000_000_001), expected);
+        assert_eq!(with_word(state + 2, 19), expected);
+        assert_eq!(with_word(state + 3, 1_001), expected);
+        assert_eq!(with_word(state + 4, 3), expected);
+        assert_eq!(with_word(state + 5, 399), expected);
+        assert_eq!(with_word(state + 12, u64::MAX), 0);
         assert_eq!(with_word(at + 48, 20_001), expected);
         assert_eq!(with_word(at + 51, 1_000_000_000_000_000_001), expected);
         assert_eq!(with_word(at + 52, u64::MAX), 0);
@@ -112,12 +121,9 @@ fn twelve_before_all_others() {
         Call::Hold { slot: 0 },
         Call::Recall { slot: 0 },
         Call::Drop { slot: 0 },
-        Call::ReportCase { case: 7 },
-        Call::ReportSegment {
-            case: 7,
-            segment: 0,
-        },
-        Call::ReportRuns,
+        ask(7, &Question::Case),
+        ask(7, &Question::Segment(0)),
+        Call::RunCount,
     ];
     for call in calls {
         assert_eq!(lent.number(&call), 12);

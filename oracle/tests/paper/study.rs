@@ -1,7 +1,7 @@
 //! A study of three segments, and calls on it.
 
 use crate::networks;
-use oracle::book::{Book, Call, Lengths, Start};
+use oracle::book::{Book, Call, Lengths, Question, Start};
 use oracle::case::{Alinea, Setting};
 use oracle::file;
 use oracle::network::Network;
@@ -60,4 +60,8 @@ pub fn meter(segment: u64, setting: Setting) -> Call<'static> {
 
 pub fn step(arrivals: &[u32]) -> Call<'_> {
     Call::Step { arrivals }
+}
+
+pub fn ask(case: u64, question: &Question) -> Call<'_> {
+    Call::Question { case, question }
 }

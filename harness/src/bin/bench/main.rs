@@ -9,10 +9,9 @@
 //! 8 curves. Rows:
 //!
 //! - check: the number of a network file.
-//! - case_step: one step of a single case in arrays.
-//! - step alone: the one row of unlike work. Engine: case_step less the same
-//!   call refused by 16, which reads and judges only. Oracle: the bare step
-//!   on typed data, with nothing read, judged or stored.
+//! - step alone: the one row of unlike work. Engine: Step less the same call
+//!   refused by 16, which reads and judges only. Oracle: the bare step on
+//!   typed data, with nothing read, judged or stored.
 //! - start: Start on a file, over a study with empty slots. The lists are
 //!   numbers of 32 bits for the engine and of 64 for the oracle.
 //! - step: Step.
@@ -21,15 +20,15 @@
 //! - hold recall drop: three calls, each judged, on slot 6. Where slots are
 //!   filled it is Drop, Hold, Recall: slot 6 is empty between the first two.
 //!
-//! "Slots" is how many are filled; check, case_step and start read none.
+//! "Slots" is how many are filled; check, step alone and start read none.
 //!
 //! In the time: the caller's loop, a few words put back before every step so
 //! that no bound is reached, and a look at the number. Not in it: refused
 //! calls, Sign, Meter, the run count, Write, the program `tallies`; arrays
 //! that are not in the processor's caches; several threads.
 
+mod alone;
 mod busy;
-mod case;
 mod check;
 mod study;
 mod table;
@@ -40,7 +39,7 @@ fn main() {
 
 fn rows() -> Vec<table::Row> {
     let mut rows = check::rows();
-    rows.extend(case::rows());
+    rows.extend(alone::rows());
     rows.extend(study::rows());
     rows
 }

@@ -49,6 +49,16 @@ pub fn rows() -> Vec<Row> {
     rows
 }
 
+/// The engine's Step, with empty slots.
+pub fn taken_step(network: &Network) -> impl Side {
+    Lent::new(network, 0, engine_side::step)
+}
+
+/// The same on a line that has taken all its steps.
+pub fn refused_step(network: &Network) -> impl Side {
+    Lent::new(network, 0, engine_side::refused_step)
+}
+
 fn row(name: &'static str, network: &Network, filled: usize, works: [Work; 2]) -> Row {
     let [mut engine, mut oracle] = works.map(|work| Lent::new(network, filled, work));
     for _ in 0..100 {

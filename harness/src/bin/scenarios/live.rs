@@ -1,8 +1,8 @@
 //! The live case of a study in lent arrays, by the engine's C functions.
 //! A refused call ends the program with its number.
 
-use harness::calls::{Answer, Call, Start};
-use harness::engine::study::ask;
+use harness::calls::{ask_engine, Answer, Call, Question, Start};
+use harness::study::{speeds_for, words_for};
 use oracle::case::Setting;
 use oracle::file::{write, Network};
 
@@ -24,8 +24,8 @@ impl Live {
     pub fn start(network: &Network, counts: Vec<u64>, speeds: Vec<u64>) -> Live {
         let n = network.segments.len();
         let mut live = Live {
-            words: vec![0; 2576 + 7 * (16 * n + 8)],
-            speeds: vec![0.0; 7 * n],
+            words: vec![0; words_for(n)],
+            speeds: vec![0.0; speeds_for(n)],
             network: network.clone(),
         };
         live.call(Call::Start(Start {
@@ -60,13 +60,7 @@ impl Live {
     }
 
     pub fn seen(&mut self, segment: u64) -> Seen {
-        let figures = self
-            .call(Call::ReportSegment {
-                case: 0,
-                segment,
-                room: 7,
-            })
-            .figures;
+        let figures = self.ask(Question::Segment(segment), 7);
         Seen {
             count: figures[0],
             queue: figures[3],
@@ -76,12 +70,23 @@ impl Live {
 
     /// Time spent so far, in veh·h.
     pub fn time_spent(&mut self) -> f64 {
-        let figures = self.call(Call::Report { case: 0, room: 6 }).figures;
+        let figures = self.ask(Question::Case, 6);
         figures[5] as f64 / 3_600_000.0
     }
 
+    /// The figures of a question about the live case.
+    fn ask(&mut self, question: Question, room: usize) -> Box<[u64]> {
+        let case = 0;
+        let question = Call::Question {
+            case,
+            question,
+            room,
+        };
+        self.call(question).figures
+    }
+
     fn call(&mut self, call: Call) -> Answer {
-        let answer = ask(&mut self.words, &mut self.speeds, &call);
+        let (_, answer) = ask_engine(&mut self.words, &mut self.speeds, &call);
         assert_eq!(answer.number, 0, "refused: {call:?}");
         answer
     }

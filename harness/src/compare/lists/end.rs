@@ -2,7 +2,7 @@
 //! segment, as the arrays hold them and as reports give them.
 
 use super::List;
-use crate::calls::{Call, Function};
+use crate::calls::{Call, Question};
 use crate::compare::Difference;
 use crate::random::Random;
 use oracle::book::SLOTS;
@@ -17,9 +17,8 @@ impl List {
         self.followed.take(Call::Sound)?;
         if reports {
             self.reports()?;
-            let right = !random.once_in(2);
-            let write = self.scene().call(random, Function::Write, right);
-            self.followed.take(write)?;
+            let room = self.scene().file_length() - random.below(2) as usize;
+            self.followed.take(Call::Write { room })?;
         }
         Ok(())
     }
@@ -28,16 +27,20 @@ impl List {
         let segments = self.scene().network.segments.len() as u64;
         self.followed.take(Call::RunCount { room: 1 })?;
         for case in 0..=SLOTS as u64 {
-            self.followed.take(Call::Report { case, room: 6 })?;
+            self.ask(case, Question::Case, 6)?;
             for segment in 1..=segments {
-                let room = 7;
-                self.followed.take(Call::ReportSegment {
-                    case,
-                    segment,
-                    room,
-                })?;
+                self.ask(case, Question::Segment(segment), 7)?;
             }
         }
         Ok(())
+    }
+
+    fn ask(&mut self, case: u64, question: Question, room: usize) -> Result<(), Difference> {
+        let question = Call::Question {
+            case,
+            question,
+            room,
+        };
+        self.followed.take(question).map(|_| ())
     }
 }

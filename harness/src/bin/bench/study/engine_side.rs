@@ -1,46 +1,55 @@
 //! The timed calls on a study, asked of the engine.
 
 use super::lent::Lent;
-use harness::calls::Call;
-use harness::engine::study;
+use crate::busy::LINE_STEPS;
+use harness::engine::{study_drop, study_hold, study_recall};
+use harness::engine::{study_report, study_report_segment, study_start, study_step};
 use oracle::book::SLOTS;
 use std::hint::black_box;
 
 pub fn start(lent: &mut Lent) -> u64 {
-    let lists = lent.arguments.lists.each_ref().map(|list| &list[..]);
-    let file = black_box(&lent.arguments.file[..]);
-    study::start(&mut lent.words, &mut lent.speeds, file, lists)
+    let [mvs, initial_speeds, queues] = &lent.arguments.lists;
+    let file = black_box(&lent.arguments.file);
+    let (words, speeds) = (&mut lent.words, &mut lent.speeds);
+    study_start(words, speeds, file, mvs, initial_speeds, queues)
 }
 
 pub fn step(lent: &mut Lent) -> u64 {
     let (words, speeds, arrivals) = lent.next_step();
-    study::step(words, speeds, black_box(arrivals))
+    study_step(words, speeds, black_box(arrivals))
+}
+
+/// Read and judged, then refused by 16.
+pub fn refused_step(lent: &mut Lent) -> u64 {
+    let (words, speeds, arrivals) = lent.step_after(LINE_STEPS);
+    study_step(words, speeds, black_box(arrivals)) ^ 16
 }
 
 pub fn report(lent: &mut Lent) -> u64 {
-    let call = Call::Report {
-        case: black_box(lent.arguments.case),
-        room: 6,
-    };
-    study::report(&mut lent.words, &mut lent.speeds, &call, &mut lent.figures)
+    let case = black_box(lent.arguments.case);
+    study_report(&mut lent.words, &mut lent.speeds, case, &mut lent.figures)
 }
 
 pub fn report_segment(lent: &mut Lent) -> u64 {
-    let call = Call::ReportSegment {
-        case: black_box(lent.arguments.case),
-        segment: black_box(lent.arguments.segment),
-        room: 7,
-    };
-    study::report(&mut lent.words, &mut lent.speeds, &call, &mut lent.figures)
+    let case = black_box(lent.arguments.case);
+    let segment = black_box(lent.arguments.segment);
+    let (words, speeds) = (&mut lent.words, &mut lent.speeds);
+    study_report_segment(words, speeds, case, segment, &mut lent.figures)
 }
 
 pub fn hold_recall_drop(lent: &mut Lent) -> u64 {
     let slot = black_box(SLOTS as u64);
-    let [hold, recall, drop] = [Call::Hold(slot), Call::Recall(slot), Call::Drop(slot)];
-    let calls = match lent.arguments.case {
-        0 => [hold, recall, drop],
-        _ => [drop, hold, recall],
-    };
-    let mut ask = |call| study::short(&mut lent.words, &mut lent.speeds, call);
-    calls.iter().map(&mut ask).sum()
+    let (words, speeds) = (&mut lent.words, &mut lent.speeds);
+    match lent.arguments.case {
+        0 => {
+            study_hold(words, speeds, slot)
+                + study_recall(words, speeds, slot)
+                + study_drop(words, speeds, slot)
+        }
+        _ => {
+            study_drop(words, speeds, slot)
+                + study_hold(words, speeds, slot)
+                + study_recall(words, speeds, slot)
+        }
+    }
 }

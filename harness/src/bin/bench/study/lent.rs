@@ -3,7 +3,8 @@
 use crate::busy::{self, LINE_STEPS};
 use crate::table::Side;
 use harness::random::Random;
-use harness::single::{ARRIVALS, COUNT, EXITS, STEPS, TIME};
+use harness::stored_case::{state_word, total_word};
+use harness::stored_case::{ARRIVALS, COUNT, EXITS, STEPS, TIME};
 use harness::study::{case_word, speeds_for, words_for, Study, RUNS};
 use oracle::book::SLOTS;
 use oracle::file::{self, Network};
@@ -65,10 +66,15 @@ impl Lent {
     /// Puts totals and run count back, and gives the arrays and the arrivals
     /// of the next step.
     pub fn next_step(&mut self) -> (&mut [u64], &mut [f64], &[u32]) {
+        self.step_after(self.turn as u64 % LINE_STEPS)
+    }
+
+    /// The same for the step after so many.
+    pub fn step_after(&mut self, steps: u64) -> (&mut [u64], &mut [f64], &[u32]) {
         let n = self.arguments.network.segments.len();
         self.words[RUNS] = 0;
-        let totals = &mut self.words[case_word(n, 0) + 16 * n..];
-        totals[STEPS] = self.turn as u64 % LINE_STEPS;
+        let totals = &mut self.words[case_word(n, 0) + total_word(n, 0)..];
+        totals[STEPS] = steps;
         (totals[ARRIVALS], totals[EXITS], totals[TIME]) = (0, 0, 0);
         let arrivals = &self.arguments.arrivals;
         let arrivals = &arrivals[self.turn % arrivals.len()];
@@ -85,7 +91,7 @@ impl Side for Lent {
     fn expect(&self) {
         let network = &self.arguments.network;
         let n = network.segments.len();
-        let count = |place| self.words[case_word(n, 0) + 16 * place + COUNT];
+        let count = |place| self.words[case_word(n, 0) + state_word(place, COUNT)];
         busy::expect(network, (0..n).map(count));
     }
 }

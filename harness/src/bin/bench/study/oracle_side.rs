@@ -1,7 +1,7 @@
 //! The same calls asked of the oracle, on arrays of the same content.
 
 use super::lent::Lent;
-use oracle::book::{Answer, Call, Start, SLOTS};
+use oracle::book::{Call, Figures, Question, Start, SLOTS};
 use oracle::study;
 use std::hint::black_box;
 
@@ -23,14 +23,12 @@ pub fn step(lent: &mut Lent) -> u64 {
 }
 
 pub fn report(lent: &mut Lent) -> u64 {
-    let case = black_box(lent.arguments.case);
-    report_of(lent, &Call::ReportCase { case })
+    report_of(lent, &Question::Case)
 }
 
 pub fn report_segment(lent: &mut Lent) -> u64 {
-    let case = black_box(lent.arguments.case);
     let segment = black_box(lent.arguments.segment);
-    report_of(lent, &Call::ReportSegment { case, segment })
+    report_of(lent, &Question::Segment(segment))
 }
 
 pub fn hold_recall_drop(lent: &mut Lent) -> u64 {
@@ -48,32 +46,17 @@ pub fn hold_recall_drop(lent: &mut Lent) -> u64 {
     calls.iter().map(&mut ask).sum()
 }
 
-fn number(result: Result<Answer, u8>) -> u64 {
+fn number(result: Result<Figures, u8>) -> u64 {
     result.err().map_or(0, u64::from)
 }
 
 /// A report with its figures put where the engine puts them.
-fn report_of(lent: &mut Lent, call: &Call) -> u64 {
-    let result = study::call(&mut lent.words, &mut lent.speeds, call);
-    match &result {
-        Ok(Answer::Case(of)) => lent.figures[..6].copy_from_slice(&[
-            of.steps,
-            of.in_segments,
-            of.in_queues,
-            of.arrivals,
-            of.exits,
-            of.time,
-        ]),
-        Ok(Answer::Segment(of)) => lent.figures.copy_from_slice(&[
-            of.count,
-            of.whole_speed,
-            of.speed_bits,
-            of.queue,
-            of.last_outflow,
-            of.last_release,
-            of.rate,
-        ]),
-        _ => {}
+fn report_of(lent: &mut Lent, question: &Question) -> u64 {
+    let case = black_box(lent.arguments.case);
+    let call = Call::Question { case, question };
+    let result = study::call(&mut lent.words, &mut lent.speeds, &call);
+    if let Ok(figures) = &result {
+        lent.figures[..figures.len()].copy_from_slice(figures);
     }
     number(result)
 }

@@ -1,5 +1,6 @@
-//! One segment's row: N, w, limit, compliance + 500, setting code, R, target,
-//! gain, least, z, last outflow, last release and four free words.
+//! The state of one segment in its sixteen words: N, w, limit, compliance +
+//! 500, setting code, R, target, gain, least, z, last outflow, last release
+//! and four free words.
 
 use super::MOST_MV;
 use crate::book::rows::{judge_meter, judge_sign};
@@ -11,19 +12,19 @@ const FIXED: u64 = 1;
 const ALINEA: u64 = 2;
 
 /// The state of segment `place` (from 0), or nothing where it is not sound.
-pub fn state(network: &Network, place: usize, row: &[u64], speed: f64) -> Option<SegmentState> {
+pub fn read(network: &Network, place: usize, words: &[u64], speed: f64) -> Option<SegmentState> {
     let segment = &network.segments[place];
     let most = u64::from(segment.most_released);
     let free_speed = f64::from(network.free_speed(segment));
     let state = SegmentState {
-        count: row[0],
+        count: words[0],
         speed,
-        queue: row[1],
-        sign: sign(row[2], row[3])?,
-        setting: setting(row)?,
-        rate: row[5],
-        last_outflow: row[10],
-        last_release: row[11],
+        queue: words[1],
+        sign: sign(words[2], words[3])?,
+        setting: setting(words)?,
+        rate: words[5],
+        last_outflow: words[10],
+        last_release: words[11],
     };
     let sound = figures_sound(&state)
         && (1_000.0..=free_speed).contains(&speed)
@@ -32,36 +33,36 @@ pub fn state(network: &Network, place: usize, row: &[u64], speed: f64) -> Option
     sound.then_some(state)
 }
 
-/// Puts what a step changes into the row.
-pub fn put_step(state: &SegmentState, row: &mut [u64]) {
-    row[0] = state.count;
-    row[1] = state.queue;
-    row[5] = state.rate;
-    row[10] = state.last_outflow;
-    row[11] = state.last_release;
+/// Puts what a step changes.
+pub fn put_step(state: &SegmentState, words: &mut [u64]) {
+    words[0] = state.count;
+    words[1] = state.queue;
+    words[5] = state.rate;
+    words[10] = state.last_outflow;
+    words[11] = state.last_release;
 }
 
 /// A dark sign is two words of 0.
-pub fn put_sign(sign: Sign, row: &mut [u64]) {
-    [row[2], row[3]] = match sign {
+pub fn put_sign(sign: Sign, words: &mut [u64]) {
+    [words[2], words[3]] = match sign {
         Sign::Dark => [0, 0],
         Sign::Shown { limit, compliance } => [limit, (compliance + 500) as u64],
     };
 }
 
 /// Setting and rate. Words that the setting does not use are 0.
-pub fn put_setting(state: &SegmentState, row: &mut [u64]) {
-    row[4..10].fill(0);
-    row[5] = state.rate;
+pub fn put_setting(state: &SegmentState, words: &mut [u64]) {
+    words[4..10].fill(0);
+    words[5] = state.rate;
     match state.setting {
-        Setting::Open => row[4] = OPEN,
-        Setting::Fixed(_) => row[4] = FIXED,
+        Setting::Open => words[4] = OPEN,
+        Setting::Fixed(_) => words[4] = FIXED,
         Setting::Alinea(alinea) => {
-            row[4] = ALINEA;
-            row[6] = alinea.target;
-            row[7] = alinea.gain;
-            row[8] = alinea.least;
-            row[9] = alinea.interval;
+            words[4] = ALINEA;
+            words[6] = alinea.target;
+            words[7] = alinea.gain;
+            words[8] = alinea.least;
+            words[9] = alinea.interval;
         }
     }
 }
@@ -87,16 +88,16 @@ fn sign(limit: u64, raised: u64) -> Option<Sign> {
 }
 
 /// Words that a setting does not use are 0.
-fn setting(row: &[u64]) -> Option<Setting> {
-    let unused = row[6..10].iter().all(|&word| word == 0);
-    match row[4] {
+fn setting(words: &[u64]) -> Option<Setting> {
+    let unused = words[6..10].iter().all(|&word| word == 0);
+    match words[4] {
         OPEN if unused => Some(Setting::Open),
-        FIXED if unused => Some(Setting::Fixed(row[5])),
+        FIXED if unused => Some(Setting::Fixed(words[5])),
         ALINEA => Some(Setting::Alinea(Alinea {
-            target: row[6],
-            gain: row[7],
-            least: row[8],
-            interval: row[9],
+            target: words[6],
+            gain: words[7],
+            least: words[8],
+            interval: words[9],
         })),
         _ => None,
     }

@@ -1,6 +1,7 @@
 //! Start: right, or with something wrong in the file or in a list.
 
-use super::Wrong;
+use super::source::{any_list, Source};
+use super::Scene;
 use crate::calls::Start;
 use crate::damages::{in_turn, FILE};
 use crate::draft::{Draft, HEAD};
@@ -13,22 +14,29 @@ const MOST_WAITING: u64 = 1_000_000;
 /// The lists are of 32-bit numbers.
 const WIDEST: u64 = u32::MAX as u64;
 
-/// A Start on one of the networks; where it is not right, its file is
-/// damaged, or a list's length or one of its figures is wrong.
-pub fn start(random: &mut Random, networks: &[Network], right: bool) -> Start {
-    let chosen = random.below(networks.len() as u64) as usize;
-    let mut start = good_start(random, &networks[chosen]);
-    let wrong = Wrong::of(random, 4, right);
-    if wrong.has(3) {
-        spoil_figure(random, &networks[chosen], &mut start);
+impl Scene<'_> {
+    /// A Start on one of the networks that it may bring. Where it is not
+    /// right, its file is damaged, or a list's length or one of its figures
+    /// is wrong. Of any numbers only the lists are made.
+    pub(super) fn start(&self, from: &mut Source) -> Start {
+        let (random, wrong) = match from {
+            Source::Any(next) => return any_start(next, &self.brought[0]),
+            Source::Suited { random, wrong } => (random, wrong),
+        };
+        let chosen = random.below(self.brought.len() as u64) as usize;
+        let mut start = good_start(random, &self.brought[chosen]);
+        let [file, list, figure] = [wrong.next() | wrong.next(), wrong.next(), wrong.next()];
+        if figure {
+            spoil_figure(random, &self.brought[chosen], &mut start);
+        }
+        if list {
+            spoil_lengths(random, &mut start);
+        }
+        if file {
+            start.file = damaged_file(random);
+        }
+        start
     }
-    if wrong.has(2) {
-        spoil_lengths(random, &mut start);
-    }
-    if wrong.has(0) || wrong.has(1) {
-        start.file = damaged_file(random);
-    }
-    start
 }
 
 /// A Start that is right for this network: the ends of every range often.
@@ -49,6 +57,18 @@ pub fn good_start(random: &mut Random, network: &Network) -> Start {
         start.queues.push(random.edge(0, waiting));
     }
     start
+}
+
+/// The network's file, with lists of any numbers.
+fn any_start(next: &mut dyn FnMut() -> u64, network: &Network) -> Start {
+    let n = network.segments.len();
+    let mut list = || any_list(next, n).into_iter().map(u64::from).collect();
+    Start {
+        file: file::write(network).into(),
+        counts: list(),
+        speeds: list(),
+        queues: list(),
+    }
 }
 
 /// A file that one of rows 1 to 8 refuses.

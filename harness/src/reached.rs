@@ -19,7 +19,7 @@ pub fn note(function: Function, number: u64) {
 /// number refused it. Answers whether everything in the table came up.
 pub fn say() -> bool {
     let mut complete = true;
-    println!("{:<22} {:>9}  refused by", "call", "accepted");
+    println!("{:<22} {:>9}  refused by", "function", "accepted");
     for (&(name, numbers), counts) in Function::ALL.iter().zip(&COUNTS) {
         let times = |number: u64| counts[number as usize].load(Ordering::Relaxed);
         if (0..NUMBERS as u64).all(|number| times(number) == 0) {

@@ -13,6 +13,7 @@
 #define WORDS (2576 + 7 * (16 + 8))
 #define SPEEDS 7
 #define ARRANGEMENT 2575        /* the word of the arrangement number */
+#define START 2                 /* the slot of the start case */
 #define EMPTY 3                 /* a slot that stays empty */
 
 typedef struct {
@@ -130,6 +131,7 @@ static void tallies(Study study)
     expect("sound", study_sound(study.words, WORDS, study.speeds, SPEEDS), 0);
     expect("arrangement number", study.words[ARRANGEMENT], 1);
     expect_case(study, 0, listing[0]);
+    expect("hold the start case", hold(study, START), 0);
     expect("step 1", step(study, 4000), 0);
     expect_case(study, 0, listing[1]);
     expect_segment(study, 95000.0, 10000, 6000);
@@ -200,6 +202,16 @@ static void signs(Study study)
     expect_segment(study, 97500.0 + 0.5 * (63000.0 - 97500.0), 5717, 0);
 }
 
+/* The start case, held right after Start, comes back with its dark sign and its count of steps. */
+static void start_case(Study study)
+{
+    expect("recall of the start case", recall(study, START), 0);
+    expect_case(study, 0, listing[0]);
+    expect("step 1 once more", step(study, 4000), 0);
+    expect_case(study, 0, listing[1]);
+    expect_segment(study, 95000.0, 10000, 6000);
+}
+
 /* A study of another arrangement is none of this engine's. */
 static void arrangement(Study study)
 {
@@ -234,6 +246,7 @@ int main(void)
     slots(study);
     refusals(study);
     signs(study);
+    start_case(study);
     arrangement(study);
     writing(study);
     expect("NaN in an empty slot", (uint64_t)memcmp(study.speeds + EMPTY, &no_number, sizeof no_number), 0);

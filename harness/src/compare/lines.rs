@@ -122,5 +122,5 @@ fn refused(random: &mut Random, line: &mut Line, arrivals: &[u32]) -> Result<(),
             15
         }
     };
-    line.refuse(Call::Step(arrivals.into()), number)
+    line.expect(&Call::Step(arrivals.into()), number)
 }

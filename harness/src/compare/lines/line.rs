@@ -9,6 +9,7 @@ use crate::random::Random;
 use crate::reached;
 use crate::stored_case::{total_word, STEPS};
 use crate::study::{case_word, put_case_at, put_study, speeds_for, words_for, RUNS};
+use oracle::book::SLOTS;
 use oracle::case::{Case, Sign};
 use oracle::file::Network;
 use oracle::step;
@@ -31,7 +32,7 @@ impl Line {
         let mut expected = engine.clone();
         let case = Case::start(&network, &start.counts, &start.speeds, &start.queues);
         expected.words[..case_word(n, 1)].fill(0);
-        put_study(&network, 0, &[0; 6], &mut expected.words);
+        put_study(&network, 0, &[0; SLOTS], &mut expected.words);
         put_case_at(0, &case, &mut expected);
         let mut line = Line {
             network,
@@ -39,7 +40,7 @@ impl Line {
             engine,
             expected,
         };
-        line.ask(&Call::Start(start), 0)?;
+        line.expect(&Call::Start(start), 0)?;
         Ok(line)
     }
 
@@ -70,25 +71,20 @@ impl Line {
             _ => unreachable!("no item of a line"),
         }
         put_case_at(0, &self.case, &mut self.expected);
-        self.ask(&call, 0)
-    }
-
-    /// A call that this number refuses.
-    pub fn refuse(&mut self, call: Call, number: u64) -> Result<(), Difference> {
-        self.ask(&call, number)
+        self.expect(&call, 0)
     }
 
     /// A line of 20,000 steps has no other.
     pub fn end(&mut self) -> Result<(), Difference> {
         let none = vec![0; self.network.segments.len()];
         match self.case.steps {
-            MOST_STEPS => self.refuse(Call::Step(none.into()), 16),
+            MOST_STEPS => self.expect(&Call::Step(none.into()), 16),
             _ => Ok(()),
         }
     }
 
     /// The engine answers this number and leaves what is expected.
-    fn ask(&mut self, call: &Call, number: u64) -> Result<(), Difference> {
+    pub fn expect(&mut self, call: &Call, number: u64) -> Result<(), Difference> {
         let (words, speeds) = self.engine.lent();
         let (function, answer) = ask_engine(words, speeds, call);
         if answer.number != number {
@@ -106,7 +102,7 @@ impl Line {
         let expected = self.expected.in_words();
         Difference {
             what,
-            input: format!("{call:?}\nafter it\n{expected}").into_bytes(),
+            input: format!("{call:?}\nexpected after it:\n{expected}").into_bytes(),
         }
     }
 }

@@ -17,7 +17,7 @@ use Rattle.metanet.specs.declared.SegmentState.{SegmentState}
 use Rattle.metanet.specs.Case.{openKind, alineaKind}
 use Rattle.metanet.specs.Flow.{exitPart, alineaRate, moved, rateChange}
 use Rattle.metanet.specs.Speed.{area, keep}
-use Rattle.metanet.specs.Step.{rateOf, rateNow, releaseNow, outflowNow, through}
+use Rattle.metanet.specs.Step.{rateOf, rateNow, rampNow, releaseNow, outflowNow, through}
 use Rattle.metanet.proofs.Ready.{AreaOk, SegmentOk, RampOk, StateOk}
 
 -- ---- what acceptance of the network says of segment i
@@ -50,8 +50,8 @@ area-ok S = record { metres-low = omega (arith, S .metres-low); metres-high = S 
 
 -- ---- the rate stays at most Q
 
-pub rate-high : (s : Segment) {r : Ramp} → RampOk (s .most) r → (n t : ℕ) → rateNow s n r t ≤ s .most
-unfolding rateNow rateOf alineaRate
+pub rate-high : (s : Segment) {r : Ramp} → RampOk (s .most) r → (n t : ℕ) → rampNow s n r t .rate ≤ s .most
+unfolding rampNow rateNow rateOf alineaRate
 rate-high s {r} R n t = pick (eqb (r .kind) alineaKind && eqb (t % r .interval) 0) (eqb (r .kind) openKind)
   where
     pick : (b c : Bool) → cond b (max (r .least) (min (moved (r .rate) (rateChange (r .gain) (r .target) (area s) n)) (s .most))) (cond c (s .most) (r .rate)) ≤ s .most

@@ -38,25 +38,25 @@ abbrev pub signedState : ℕ → ℤ → SegmentState → SegmentState
 signedState limit compliance r =
     record { count = r .count; queue = r .queue; sign = signFor limit compliance; ramp = r .ramp; flows = r .flows; speed = r .speed }
 
--- ---- Meter: open, or fixed at 0..Q mv, or ALINEA with target 1..199, gain 1..60,000 mv, least 0..Q, z 1..60 steps; q is Q
+-- ---- Meter: open, or fixed at 0..Q mv, or ALINEA with target 1..199, gain 1..60,000 mv, least 0..Q, z 1..60 steps; most is Q
 
 -- 20
 abbrev pub settingRefused : ℕ → Setting → Bool
-settingRefused q Open = anyOf []
-settingRefused q (Fixed rate) = ltb q rate
-settingRefused q (Alinea target gain least interval) =
-    anyOf (outside 1 target 199 ∷ outside 1 gain 60000 ∷ ltb q least ∷ outside 1 interval 60 ∷ [])
+settingRefused most Open = anyOf []
+settingRefused most (Fixed rate) = ltb most rate
+settingRefused most (Alinea target gain least interval) =
+    anyOf (outside 1 target 199 ∷ outside 1 gain 60000 ∷ ltb most least ∷ outside 1 interval 60 ∷ [])
 
 -- ALINEA begins at R = Q
 abbrev pub rampFor : ℕ → Setting → Ramp
-rampFor q Open = openRamp q
-rampFor q (Fixed rate) = plainRamp fixedKind rate
-rampFor q (Alinea target gain least interval) =
-    record { kind = alineaKind; rate = q; target = target; gain = gain; least = least; interval = interval }
+rampFor most Open = openRamp most
+rampFor most (Fixed rate) = plainRamp fixedKind rate
+rampFor most (Alinea target gain least interval) =
+    record { kind = alineaKind; rate = most; target = target; gain = gain; least = least; interval = interval }
 
 abbrev pub meteredState : ℕ → Setting → SegmentState → SegmentState
-meteredState q setting r =
-    record { count = r .count; queue = r .queue; sign = r .sign; ramp = rampFor q setting; flows = r .flows; speed = r .speed }
+meteredState most setting r =
+    record { count = r .count; queue = r .queue; sign = r .sign; ramp = rampFor most setting; flows = r .flows; speed = r .speed }
 
 -- ---- the case c with the state r at segment i, counted from 0; all else stays
 abbrev pub withState : Case → ℕ → SegmentState → Case

@@ -29,7 +29,7 @@ timeMost = 1000000000000000000
 abbrev pub stepsMost : ℕ
 stepsMost = 20000
 
--- ---- signs, settings and rates as their calls permit
+-- ---- signs, settings and rates as their calls permit; most is Q
 
 -- a dark sign keeps no compliance; a shown one has a limit of 20..200 and a compliance of −500..500, kept with 500 added
 unfoldable pub signBad : SignSetting → Bool
@@ -39,35 +39,36 @@ signBad r = cond (eqb (r .limit) 0) (ltb 0 (r .compliance)) (outside 20 (r .limi
 unfoldable pub hasAlinea : Ramp → Bool
 hasAlinea r = anyOf (ltb 0 (r .target) ∷ ltb 0 (r .gain) ∷ ltb 0 (r .least) ∷ ltb 0 (r .interval) ∷ [])
 
--- open: R is Q, here q, and the figures that only ALINEA has are 0
+-- open: R is Q, and the figures that only ALINEA has are 0
 unfoldable pub openBad : ℕ → Ramp → Bool
 unfolding hasAlinea
-openBad q r = hasAlinea r || not (eqb (r .rate) q)
+openBad most r = hasAlinea r || not (eqb (r .rate) most)
 
 -- fixed at 0..Q, and the figures that only ALINEA has are 0
 unfoldable pub fixedBad : ℕ → Ramp → Bool
 unfolding hasAlinea
-fixedBad q r = hasAlinea r || ltb q (r .rate)
+fixedBad most r = hasAlinea r || ltb most (r .rate)
 
 -- target 1..199, gain 1..60,000 mv, least 0..Q, z 1..60 steps, R in least..Q
 unfoldable pub alineaBad : ℕ → Ramp → Bool
-alineaBad q r =
+alineaBad most r =
     anyOf
     (outside 1 (r .target) 199
     ∷ outside 1 (r .gain) 60000
-    ∷ ltb q (r .least)
+    ∷ ltb most (r .least)
     ∷ outside 1 (r .interval) 60
-    ∷ outside (r .least) (r .rate) q
+    ∷ outside (r .least) (r .rate) most
     ∷ [])
 
 -- only an origin past segment 1 is metered: m says whether segment i is one. Every code is one that the arrangement names
 unfoldable pub settingBad : Bool → ℕ → Ramp → Bool
 unfolding openBad fixedBad alineaBad
-settingBad m q r =
-    cond (eqb (r .kind) openKind) (openBad q r)
-    (cond (eqb (r .kind) fixedKind) (not m || fixedBad q r)
-    (cond (eqb (r .kind) alineaKind) (not m || alineaBad q r) true))
+settingBad m most r =
+    cond (eqb (r .kind) openKind) (openBad most r)
+    (cond (eqb (r .kind) fixedKind) (not m || fixedBad most r)
+    (cond (eqb (r .kind) alineaKind) (not m || alineaBad most r) true))
 
+-- mv figures
 unfoldable pub flowsBad : Flows → Bool
 flowsBad r = ltb mvMost (r .outflow) || ltb mvMost (r .release)
 

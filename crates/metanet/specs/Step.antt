@@ -48,7 +48,7 @@ unfolding rateOf
 rateNow s n r t =
     cond (eqb (r .kind) alineaKind && eqb (t % r .interval) 0) (alineaRate r (s .most) (area s) n) (rateOf (s .most) r)
 
--- its setting stays
+-- the ramp after the step: its setting stays
 unfoldable pub rampNow : Segment → ℕ → Ramp → ℕ → Ramp
 unfolding rateNow
 rampNow s n r t =

@@ -57,14 +57,14 @@ unfoldable pub stateWords : SegmentState → List ℕ
 unfolding putSign putRamp putFlows
 stateWords r = putFlows (r .flows) (putRamp (r .ramp) (putSign (r .sign) (r .count ∷ r .queue ∷ replicate 14 0)))
 
--- what Sign, Meter and a step write in the words w of a state; q is the segment's Q, r the state after the step
+-- what Sign, Meter and a step write in the words w of a state; most is the segment's Q, r the state after the step
 unfoldable pub signedWords : ℕ → ℤ → List ℕ → List ℕ
 unfolding putSign
 signedWords limit compliance w = putSign (signFor limit compliance) w
 
 unfoldable pub meteredWords : ℕ → Setting → List ℕ → List ℕ
 unfolding putRamp
-meteredWords q setting w = putRamp (rampFor q setting) w
+meteredWords most setting w = putRamp (rampFor most setting) w
 
 unfoldable pub steppedWords : List ℕ → SegmentState → List ℕ
 unfolding putRate putFlows

@@ -15,9 +15,9 @@ use Rattle.format.specs.Words.{headIn, networkIn, keptNumber, keptWords}
 use Rattle.format.proofs.File.{network-within}
 use Rattle.format.proofs.Kept.{length-kept}
 use Rattle.format.proofs.KeptFile.{kept-file, kept-network}
-use Rattle.metanet.specs.declared.SegmentState.{SegmentState}
 use Rattle.metanet.specs.Case.{Case, stateOf}
 use Rattle.metanet.specs.Words.{netOf, caseIn, stateWords, caseWords, caseSpeeds}
+use Rattle.metanet.proofs.StateWords.{length-state}
 use Rattle.metanet.proofs.Coded.{case-coded}
 use Rattle.book.specs.Arrangement.{caseLength, caseWord, caseSpeed, wordsFor, speedsFor, sizeAt, caseAt}
 use Rattle.book.specs.Calls.{start}
@@ -26,10 +26,6 @@ use Rattle.book.specs.Perform.{Arrays, startWords, startSpeeds, storedWo
 use Rattle.book.proofs.Stored.{stored, Begun}
 
 -- ---- how many words and speeds a case of n segments has
-
-length-state : (r : SegmentState) → length (stateWords r) ≡ 16
-unfolding stateWords
-length-state r = refl
 
 length-coded : (n : ℕ) (c : Case) → length (caseWords n c) ≡ caseLength n
 unfolding caseWords

@@ -4,46 +4,26 @@ use mathlib.Core.Path.{_≡_, sym, ap, _∙_, subst}
 use mathlib.Core.List.{List}
 use native.Mathlib.Omega.{arith}
 use lib.IntN.{ℤ}
-use lib.ListN.{length, drop, getD, length-set}
+use lib.ListN.{length, drop, getD}
 use lib.Ieee.{Float, nan}
 use Rattle.laws.specs.Lists.{part, putPart}
-use Rattle.laws.proofs.Lists.{getD-set, length-part}
+use Rattle.laws.proofs.Lists.{length-part}
 use Rattle.laws.proofs.Outside.{same-all, same-within}
 use Rattle.format.specs.Network.{segmentOf}
 use Rattle.metanet.specs.declared.SegmentState.{SegmentState}
 use Rattle.metanet.specs.Case.{Case, stateOf}
-use Rattle.metanet.specs.Words.{stateIn, caseIn}
-use Rattle.metanet.proofs.ReadBack.{state-take}
+use Rattle.metanet.specs.Words.{stateIn, caseIn, signedWords, meteredWords}
+use Rattle.metanet.proofs.StateWords.{state-take, length-signed, length-metered, state-signed, state-metered}
 use Rattle.metanet.proofs.SoundLaws.{state-read}
 use Rattle.metanet.specs.declared.Setting.{Setting}
 use Rattle.book.specs.Arrangement.{caseLength, caseWord, caseSpeed, networkAt, sizeAt, runCountAt, markAt, caseAt}
 use Rattle.book.specs.Calls.{sign, meter}
 use Rattle.metanet.specs.Change.{signedState, meteredState, withState}
-use Rattle.book.specs.Perform.{Arrays, stateWord, signedWords, meteredWords, storedWords, storedSpeeds}
-use Rattle.metanet.specs.Line.{signed}
-use Rattle.metanet.specs.Line.{metered, change}
+use Rattle.book.specs.Perform.{Arrays, stateWord, storedWords, storedSpeeds}
+use Rattle.metanet.specs.Line.{signed, metered, change}
 use Rattle.metanet.proofs.CaseParts.{state-put, state-put-same}
 use Rattle.book.proofs.Stored.{stored, Fit, Stored}
 use Rattle.book.proofs.Places.{case-stored}
-
--- ---- the words of a state, read back
-
-module _ (w : List ℕ) (v : Float) (many : length w ≡ 16) where
-  state-signed : (limit : ℕ) (compliance : ℤ) → stateIn (signedWords limit compliance w) v ≡ signedState limit compliance (stateIn w v)
-  unfolding stateIn signedWords
-  state-signed limit compliance = simp (getD-set, length-set, many)
-
-  state-metered : (q : ℕ) (setting : Setting) → stateIn (meteredWords q setting w) v ≡ meteredState q setting (stateIn w v)
-  unfolding stateIn meteredWords
-  state-metered q setting = simp (getD-set, length-set, many)
-
-length-signed : (limit : ℕ) (compliance : ℤ) (w : List ℕ) → length (signedWords limit compliance w) ≡ length w
-unfolding signedWords
-length-signed limit compliance w = simp length-set
-
-length-metered : (q : ℕ) (setting : Setting) (w : List ℕ) → length (meteredWords q setting w) ≡ length w
-unfolding meteredWords
-length-metered q setting w = simp length-set
 
 -- ---- state i of the live case, counted from 1, with the words that change gives
 

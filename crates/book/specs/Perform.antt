@@ -4,7 +4,6 @@ use mathlib.Core.Path.{_≡_}
 use mathlib.Core.Bool.{Bool, true, false, _||_, not}
 use mathlib.Core.List.{List, [], _∷_, _++_}
 use lib.ListN.{length, set, drop, replicate}
-use lib.IntN.{ℤ}
 use lib.Ieee.{Float}
 use Rattle.laws.specs.First.{row}
 use Rattle.laws.specs.Lists.{part, putPart}
@@ -12,13 +11,11 @@ use Rattle.format.specs.Network.{Network, segmentOf}
 use Rattle.format.specs.File.{networkOf}
 use Rattle.format.specs.Words.{keptWords}
 use Rattle.metanet.specs.Case.{Case}
-use Rattle.metanet.specs.Words.{caseWords, caseSpeeds, stepCaseWords, stepCaseSpeeds}
-use Rattle.metanet.specs.declared.Setting.{Setting}
+use Rattle.metanet.specs.Words.{signedWords, meteredWords, caseWords, caseSpeeds, stepCaseWords, stepCaseSpeeds}
 use Rattle.book.specs.Arrangement.{runWord, markWord, marksLength, caseLength, caseWord, caseSpeed, networkAt, sizeAt, runCountAt, filledAt, caseAt}
 use Rattle.book.specs.Sound.{sound}
 use Rattle.book.specs.Calls.{Call, start, sign, meter, step, hold, recall, dropSlot, report, reportSegment, reportRuns, Answer, refused, accepted, figures}
 use Rattle.metanet.specs.Start.{startCase}
-use Rattle.metanet.specs.Change.{keptCompliance, kindOf, rateFor, targetOf, gainOf, leastOf, intervalOf}
 use Rattle.book.specs.Refusal.{Grounds, refusal}
 use Rattle.metanet.specs.Report.{caseFigures, segmentFigures}
 
@@ -77,14 +74,6 @@ startSpeeds w c speeds = let n = w .head .size in caseSpeeds n c ++ drop n speed
 -- the first word of segment i's state in the live case, i from 1
 abbrev pub stateWord : ℕ → ℕ
 stateWord i = runWord + marksLength + 16 * (i - 1)
-
--- the 16 words of a state, with a sign and with a setting; Q is the segment's
-unfoldable pub signedWords : ℕ → ℤ → List ℕ → List ℕ
-signedWords limit compliance w = set (set w 2 limit) 3 (keptCompliance limit compliance)
-
-unfoldable pub meteredWords : ℕ → Setting → List ℕ → List ℕ
-meteredWords q m w =
-    set (set (set (set (set (set w 4 (kindOf m)) 5 (rateFor q m)) 6 (targetOf m)) 7 (gainOf m)) 8 (leastOf m)) 9 (intervalOf m)
 
 -- the words and speeds of case j, copied to the place of case k
 unfoldable pub copiedWords : ℕ → ℕ → ℕ → List ℕ → List ℕ

@@ -15,13 +15,17 @@ use Rattle.metanet.specs.Speed.{newSpeed}
 use Rattle.metanet.specs.Step.{newState, outflowNow, through, inflow, freeSpeed, stepState, stepStates, exitNow, exitsNow, vehiclesIn}
 use Rattle.metanet.proofs.Ready.{SegmentOk, StateOk}
 use Rattle.metanet.proofs.SegmentLaws.{Within, keep-within, release-waits, outflow-at-most-count, exit-le}
+use Rattle.metanet.specs.declared.Flows.{Flows}
 
 -- the figures of a state that are mv
+pub record FlowsWithin (r : Flows) (most : ℕ) : Type 0 where
+  pub outflow : r .outflow ≤ most
+  pub release : r .release ≤ most
+
 pub record FiguresWithin (r : SegmentState) (most : ℕ) : Type 0 where
   pub count : r .count ≤ most
   pub queue : r .queue ≤ most
-  pub outflow : r .outflow ≤ most
-  pub release : r .release ≤ most
+  pub flows : FlowsWithin (r .flows) most
 
 module _ (h : Head) (entry : ℕ → ℕ → ℕ) (segment : ℕ → Segment) (states : List SegmentState) (t : ℕ) (ds : List ℕ)
     (ok : (i : ℕ) → i < h .size → SegmentOk h (segment i) (freeSpeed h entry segment i))
@@ -70,20 +74,22 @@ module _ (h : Head) (entry : ℕ → ℕ → ℕ) (segment : ℕ → Segment) (s
   all = sumOf (vehiclesIn states) (h .size) + sumOf (λ i. getD ds i 0) (h .size)
 
   -- every figure of a new state is at most that
-  new-figures : (i : ℕ) → i < h .size → (new i .count ≤ all) × (new i .queue ≤ all) × (new i .outflow ≤ all) × (new i .release ≤ all)
+  new-figures : (most i : ℕ) → all ≤ most → i < h .size → FiguresWithin (new i) most
   unfolding stepState newState
-  new-figures i l =
+  new-figures most i high l =
       let total = below (h .size) (omega arith) in
       let after = sum-term (λ i. new i .count + new i .queue) (h .size) i l in
       let before = sum-term (vehiclesIn states) (h .size) i l in
-      let came = sum-term (λ i. getD ds i 0) (h .size) i l in (
-        omega (arith, total, after),
-        omega (arith, total, after),
-        omega (arith, before, outflow-at-most-count (ok i l) (row i l)),
-        omega (arith, before, came, release-waits (ok i l) (row i l) t (getD ds i 0)),
-      )
+      let came = sum-term (λ i. getD ds i 0) (h .size) i l in
+      record {
+        count = omega (arith, high, total, after);
+        queue = omega (arith, high, total, after);
+        flows =
+            record {
+              outflow = omega (arith, high, before, outflow-at-most-count (ok i l) (row i l));
+              release = omega (arith, high, before, came, release-waits (ok i l) (row i l) t (getD ds i 0));
+            };
+      }
 
-  pub figures-within : (i : ℕ) → i < h .size → FiguresWithin (stateOf (stepStates h entry segment states t ds) i) all
-  figures-within i l =
-      let f = new-figures i l in
-      rw (new-is i l) (record { count = f .0; queue = f .1; outflow = f .2; release = f .3 })
+  pub figures-within : (most i : ℕ) → all ≤ most → i < h .size → FiguresWithin (stateOf (stepStates h entry segment states t ds) i) most
+  figures-within most i high l = rw (new-is i l) (new-figures most i high l)

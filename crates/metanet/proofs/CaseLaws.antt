@@ -18,7 +18,8 @@ use Rattle.metanet.specs.Words.{netOf, stateIn, stateAt, statesIn, caseI
 use Rattle.metanet.proofs.Ready.{Ready, TotalsOk, vehiclesAt}
 use Rattle.metanet.proofs.Turns.{state-is, words-each}
 use Rattle.metanet.proofs.SoundLaws.{vehicles-are, vehicles-sum}
-use Rattle.metanet.proofs.ReadBack.{state-take, states-back}
+use Rattle.metanet.proofs.StateWords.{state-take}
+use Rattle.metanet.proofs.ReadBack.{states-back}
 
 module _ {ws : List ℕ} {vs : List Float} {ds : List ℕ} {at from n : ℕ} (ok : Ready ws vs ds at from n) where
   pub vehicles-high : (i : ℕ) → i < n → vehiclesAt ws at i ≤ 2000000000000

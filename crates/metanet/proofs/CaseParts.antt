@@ -13,7 +13,7 @@ use Rattle.laws.proofs.Outside.{SameOutside, part-part, part-before, part-after
 use Rattle.metanet.specs.declared.SegmentState.{SegmentState}
 use Rattle.metanet.specs.Case.{Case}
 use Rattle.metanet.specs.Words.{stateIn, stateAt, statesIn, caseIn}
-use Rattle.metanet.proofs.ReadBack.{state-take}
+use Rattle.metanet.proofs.StateWords.{state-take}
 
 -- two places with the same 16 words have the same state
 state-same : (words words' : List ℕ) (a b : ℕ) (v : Float) → part a 16 words ≡ part b 16 words' → stateIn (drop a words) v ≡ stateIn (drop b words') v

@@ -1,7 +1,7 @@
 -- A case is sound where each of its states is and its totals are within their bounds; and the other way for its states.
 use Prim.Native.Nat.{ℕ, _≤_, _<_}
 use mathlib.Core.Path.{_≡_, _∙_}
-use mathlib.Core.Bool.{Bool, false}
+use mathlib.Core.Bool.{Bool, false, _||_}
 use mathlib.Core.List.{List, [], _∷_}
 use borrow.Author.Tests.{ltb-false, le-ltb}
 use Rattle.laws.specs.First.{anyOf}
@@ -13,38 +13,38 @@ use Rattle.format.specs.declared.Segment.{Segment}
 use Rattle.metanet.specs.declared.SegmentState.{SegmentState}
 use Rattle.metanet.specs.Case.{Case, stateOf}
 use Rattle.metanet.specs.Step.{vehiclesIn, freeSpeed, onRamp}
-use Rattle.metanet.specs.Sound.{mvMost, timeMost, stepsMost, signBad, settingBad, speedBad, stateBad, totalsBad, stateNumber, caseNumber}
-use Rattle.metanet.proofs.Balance.{FiguresWithin}
+use Rattle.metanet.specs.Sound.{mvMost, timeMost, stepsMost, signBad, settingBad, speedBad, stateBad, totalsBad, stateNumber, caseNumber, flowsBad}
+use Rattle.metanet.specs.declared.Flows.{Flows}
+use Rattle.metanet.proofs.Balance.{FlowsWithin}
 
 -- ---- a state
 
 -- what a state that is not bad says
 pub record StateSound (m : Bool) (s : Segment) (f : ℕ) (r : SegmentState) : Type 0 where
-  pub figures : FiguresWithin r 1000000000000
-  pub sign : signBad r ≡ false
-  pub setting : settingBad m s r ≡ false
+  pub count : r .count ≤ mvMost
+  pub queue : r .queue ≤ mvMost
+  pub flows : flowsBad (r .flows) ≡ false
+  pub sign : signBad (r .sign) ≡ false
+  pub setting : settingBad m (s .most) (r .ramp) ≡ false
   pub speed : speedBad f (r .speed) ≡ false
+
+pub flows-sound : {r : Flows} → FlowsWithin r mvMost → flowsBad r ≡ false
+unfolding flowsBad
+flows-sound {r} a = λ j. le-ltb mvMost (r .outflow) (a .outflow) j || le-ltb mvMost (r .release) (a .release) j
 
 module _ (m : Bool) (s : Segment) (f : ℕ) (r : SegmentState) where
   pub state-says : stateBad m s f r ≡ false → StateSound m s f r
   unfolding stateBad
   state-says z =
       let no = anyOf-false _ z in
-      record {
-        figures = record { count = ltb-false _ _ (no 0); queue = ltb-false _ _ (no 1); outflow = ltb-false _ _ (no 2); release = ltb-false _ _ (no 3) };
-        sign = no 4;
-        setting = no 5;
-        speed = no 6;
-      }
+      record { count = ltb-false _ _ (no 0); queue = ltb-false _ _ (no 1); flows = no 2; sign = no 3; setting = no 4; speed = no 5 }
 
   pub state-sound : StateSound m s f r → stateBad m s f r ≡ false
   unfolding stateBad anyOf
   state-sound a =
-      let count = le-ltb mvMost (r .count) (a .figures .count) in
-      let queue = le-ltb mvMost (r .queue) (a .figures .queue) in
-      let outflow = le-ltb mvMost (r .outflow) (a .figures .outflow) in
-      let release = le-ltb mvMost (r .release) (a .figures .release) in
-      λ j. anyOf (count j ∷ queue j ∷ outflow j ∷ release j ∷ a .sign j ∷ a .setting j ∷ a .speed j ∷ [])
+      let count = le-ltb mvMost (r .count) (a .count) in
+      let queue = le-ltb mvMost (r .queue) (a .queue) in
+      λ j. anyOf (count j ∷ queue j ∷ a .flows j ∷ a .sign j ∷ a .setting j ∷ a .speed j ∷ [])
 
 -- ---- a case, on a network with the head h, the entries entry k j and the segments segment i
 

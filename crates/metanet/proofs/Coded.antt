@@ -1,6 +1,6 @@
 -- A case that is put into the words and speeds is read back as it was.
 use Prim.Native.Nat.{ℕ, _+_, _*_, _<_}
-use mathlib.Core.Path.{_≡_, refl, sym, ap, _∙_}
+use mathlib.Core.Path.{_≡_, sym, ap, _∙_}
 use mathlib.Core.List.{List, [], _∷_, _++_, append-assoc}
 use native.Mathlib.Omega.{arith}
 use native.Mathlib.Nat.{add-zero}
@@ -9,18 +9,9 @@ use lib.Seq.{drop-drop, drop-at, getD-drop, getD-append-add}
 use lib.Ieee.{Float, nan}
 use Rattle.laws.specs.Lists.{parts}
 use Rattle.laws.proofs.Lists.{length-table, getD-table, table-of, length-parts, parts-at}
-use Rattle.metanet.specs.declared.SegmentState.{SegmentState}
 use Rattle.metanet.specs.Case.{Case, noState, stateOf}
 use Rattle.metanet.specs.Words.{stateIn, stateAt, statesIn, caseIn, stateWords, caseWords, caseSpeeds}
-use Rattle.metanet.proofs.ReadBack.{state-take}
-
-length-coded : (r : SegmentState) → length (stateWords r) ≡ 16
-unfolding stateWords
-length-coded r = refl
-
-state-coded : (r : SegmentState) → stateIn (stateWords r) (r .speed) ≡ r
-unfolding stateWords stateIn
-state-coded r = refl
+use Rattle.metanet.proofs.StateWords.{state-take, length-state, state-coded}
 
 -- c is of n segments, its words stand after ws, which are at words long, and its speeds after vs, which are from long
 module _ (c : Case) (n : ℕ) (many : length (c .states) ≡ n) (ws rest : List ℕ) (at : ℕ) (wide : length ws ≡ at) (vs past : List Float) (from : ℕ) (fast : length vs ≡ from) where
@@ -37,7 +28,7 @@ module _ (c : Case) (n : ℕ) (many : length (c .states) ≡ n) (ws rest : List 
   totals = c .steps ∷ c .arrivals ∷ c .exits ∷ c .time ∷ 0 ∷ 0 ∷ 0 ∷ 0 ∷ []
 
   long-states : length statesPart ≡ 16 * n
-  long-states = length-parts 16 (λ i. stateWords (stateOf (c .states) i)) n (λ k l. length-coded _)
+  long-states = length-parts 16 (λ i. stateWords (stateOf (c .states) i)) n (λ k l. length-state _)
 
   coded-is : words ≡ ws ++ (statesPart ++ (totals ++ rest))
   unfolding caseWords
@@ -57,7 +48,7 @@ module _ (c : Case) (n : ℕ) (many : length (c .states) ≡ n) (ws rest : List 
   state-back : (i : ℕ) → i < n → stateAt words speeds at from i ≡ stateOf (c .states) i
   state-back i l =
       sym (state-take (drop (at + 16 * i) words) (getD speeds (from + i) nan))
-      ∙ (λ j. stateIn ((ap (take 16) (after (16 * i)) ∙ parts-at 16 (λ i. stateWords (stateOf (c .states) i)) n i (totals ++ rest) (λ k m. length-coded _) l) j) (speed-back i l j))
+      ∙ (λ j. stateIn ((ap (take 16) (after (16 * i)) ∙ parts-at 16 (λ i. stateWords (stateOf (c .states) i)) n i (totals ++ rest) (λ k m. length-state _) l) j) (speed-back i l j))
       ∙ state-coded (stateOf (c .states) i)
 
   total-back : (k : ℕ) → k < 8 → getD words (at + 16 * n + k) 0 ≡ getD totals k 0

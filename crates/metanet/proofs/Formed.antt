@@ -1,5 +1,4 @@
--- One step keeps a state formed: its sign and its setting are as their calls permit, its rate is in range, and its speed is in 1,000..F.
--- Its figures may pass 10¹²: those are bounded by what was there and came (Balance).
+-- One step keeps a ramp formed: its setting is as Meter permits, and its rate is in range. A speed in 1,000..F is not bad.
 use Prim.Native.Nat.{ℕ, _%_, _≤_, min, max}
 use mathlib.Core.Path.{_≡_, refl, sym, _∙_}
 use mathlib.Core.Bool.{Bool, true, false, cond, not, _&&_, _||_}
@@ -11,16 +10,13 @@ use borrow.Author.Tests.{ltb-false, eqb-true, eq-eqb}
 use Rattle.laws.specs.First.{anyOf, outside}
 use Rattle.laws.specs.Real.{real}
 use Rattle.laws.proofs.Tests.{or-left, or-right, anyOf-false, inside, inside-low, inside-high}
-use Rattle.format.specs.declared.Head.{Head}
 use Rattle.format.specs.declared.Segment.{Segment}
-use Rattle.metanet.specs.declared.SegmentState.{SegmentState}
-use Rattle.metanet.specs.declared.Neighbours.{Neighbours}
 use Rattle.metanet.specs.Flow.{alineaRate, moved, rateChange}
-use Rattle.metanet.specs.Speed.{area, newSpeed}
-use Rattle.metanet.specs.Step.{rateOf, rateNow, newState}
-use Rattle.metanet.proofs.Ready.{SegmentOk}
-use Rattle.metanet.specs.Sound.{signBad, hasAlinea, openBad, fixedBad, alineaBad, settingBad, speedBad}
-use Rattle.metanet.proofs.SegmentLaws.{Within, keep-within}
+use Rattle.metanet.specs.Speed.{area}
+use Rattle.metanet.specs.Step.{rateOf, rateNow, rampNow}
+use Rattle.metanet.specs.Sound.{hasAlinea, openBad, fixedBad, alineaBad, settingBad, speedBad}
+use Rattle.metanet.proofs.SegmentLaws.{Within}
+use Rattle.metanet.specs.declared.Ramp.{Ramp}
 
 -- ---- the rate that a step makes, by the kind of setting
 
@@ -28,20 +24,20 @@ record InRange (least most x : ℕ) : Type 0 where
   low : least ≤ x
   high : x ≤ most
 
-module _ (s : Segment) (r : SegmentState) (t : ℕ) where
-  rate-open : r .kind ≡ 0 → rateNow s r t ≡ s .most
+module _ (s : Segment) (n : ℕ) (r : Ramp) (t : ℕ) where
+  rate-open : r .kind ≡ 0 → rateNow s n r t ≡ s .most
   unfolding rateNow rateOf
   rate-open e = rw e
 
-  rate-fixed : r .kind ≡ 1 → rateNow s r t ≡ r .rate
+  rate-fixed : r .kind ≡ 1 → rateNow s n r t ≡ r .rate
   unfolding rateNow rateOf
   rate-fixed e = rw e
 
-  rate-alinea : r .kind ≡ 2 → r .least ≤ s .most → InRange (r .least) (s .most) (r .rate) → InRange (r .least) (s .most) (rateNow s r t)
+  rate-alinea : r .kind ≡ 2 → r .least ≤ s .most → InRange (r .least) (s .most) (r .rate) → InRange (r .least) (s .most) (rateNow s n r t)
   unfolding rateNow rateOf alineaRate
   rate-alinea e l w = rw e (pick (eqb (t % r .interval) 0))
     where
-      pick : (b : Bool) → InRange (r .least) (s .most) (cond b (max (r .least) (min (moved (r .rate) (rateChange (r .gain) (r .target) (area s) (r .count))) (s .most))) (r .rate))
+      pick : (b : Bool) → InRange (r .least) (s .most) (cond b (max (r .least) (min (moved (r .rate) (rateChange (r .gain) (r .target) (area s) n)) (s .most))) (r .rate))
       pick true = record { low = omega arith; high = omega (arith, l) }
       pick false = w
 
@@ -53,62 +49,43 @@ pub within-good : (f : ℕ) (v : Float) → Within f v → speedBad f v ≡ fals
 unfolding speedBad
 within-good f v w = λ j. not (T-true (le (real 1000) v) (w .low) j && T-true (le v (real f)) (w .high) j)
 
--- ---- the new state
+-- ---- the ramp after a step
 
-module _ (h : Head) (s : Segment) (f : ℕ) (r : SegmentState) (t d : ℕ) (onRamp : Bool) (o : Neighbours) where
-  abbrev new : SegmentState
-  new = newState h s f r t d onRamp o
+module _ (s : Segment) (n : ℕ) (r : Ramp) (t : ℕ) where
+  abbrev q : ℕ
+  q = s .most
 
-  pub sign-kept : signBad new ≡ signBad r
-  unfolding newState signBad
-  sign-kept = refl
+  abbrev new : Ramp
+  new = rampNow s n r t
 
-  alinea-same : hasAlinea new ≡ hasAlinea r
-  unfolding newState hasAlinea
-  alinea-same = refl
+  open-kept : r .kind ≡ 0 → openBad q r ≡ false → openBad q new ≡ false
+  unfolding openBad rampNow
+  open-kept e z = λ j. or-left (hasAlinea r) _ z j || not (eq-eqb (rateNow s n r t) q (rate-open s n r t e) j)
 
-  new-rate : new .rate ≡ rateNow s r t
-  unfolding newState
-  new-rate = refl
+  fixed-kept : r .kind ≡ 1 → fixedBad q r ≡ false → fixedBad q new ≡ false
+  unfolding fixedBad rampNow
+  fixed-kept e z = (λ j. hasAlinea r || ltb q (rate-fixed s n r t e j)) ∙ z
 
-  open-kept : r .kind ≡ 0 → openBad s r ≡ false → openBad s new ≡ false
-  unfolding openBad
-  open-kept e z =
-      let rate = eq-eqb (new .rate) (s .most) (new-rate ∙ rate-open s r t e) in
-      λ j. (alinea-same ∙ or-left (hasAlinea r) _ z) j || not (rate j)
-
-  fixed-kept : r .kind ≡ 1 → fixedBad s r ≡ false → fixedBad s new ≡ false
-  unfolding fixedBad
-  fixed-kept e z =
-      (λ j. alinea-same j || ltb (s .most) ((new-rate ∙ rate-fixed s r t e) j)) ∙ z
-
-  alinea-kept : r .kind ≡ 2 → alineaBad s r ≡ false → alineaBad s new ≡ false
-  unfolding alineaBad newState
+  alinea-kept : r .kind ≡ 2 → alineaBad q r ≡ false → alineaBad q new ≡ false
+  unfolding alineaBad rampNow
   alinea-kept e z =
       let no = anyOf-false _ z in
-      let old : InRange (r .least) (s .most) (r .rate) = record { low = inside-low (r .least) (r .rate) (s .most) (no 4); high = inside-high (r .least) (r .rate) (s .most) (no 4) } in
-      let now = rate-alinea s r t e (ltb-false _ _ (no 2)) old in
-      let rate = inside (r .least) (rateNow s r t) (s .most) (now .low) (now .high) ∙ sym (no 4) in
-      (λ j. anyOf (outside 1 (r .target) 199 ∷ outside 1 (r .gain) 60000 ∷ ltb (s .most) (r .least) ∷ outside 1 (r .interval) 60 ∷ rate j ∷ [])) ∙ z
+      let old : InRange (r .least) q (r .rate) = record { low = inside-low (r .least) (r .rate) q (no 4); high = inside-high (r .least) (r .rate) q (no 4) } in
+      let now = rate-alinea s n r t e (ltb-false _ _ (no 2)) old in
+      let rate = inside (r .least) (rateNow s n r t) q (now .low) (now .high) ∙ sym (no 4) in
+      (λ j. anyOf (outside 1 (r .target) 199 ∷ outside 1 (r .gain) 60000 ∷ ltb q (r .least) ∷ outside 1 (r .interval) 60 ∷ rate j ∷ [])) ∙ z
 
-  -- the setting, where m says whether the segment may be metered
+  -- m says whether the segment may be metered
   pick-kept : (m a b c : Bool) → eqb (r .kind) 0 ≡ a → eqb (r .kind) 1 ≡ b → eqb (r .kind) 2 ≡ c
-      → cond a (openBad s r) (cond b (not m || fixedBad s r) (cond c (not m || alineaBad s r) true)) ≡ false
-      → cond a (openBad s new) (cond b (not m || fixedBad s new) (cond c (not m || alineaBad s new) true)) ≡ false
-  pick-kept m true b c p q u z = open-kept (eqb-true (r .kind) 0 p) z
-  pick-kept m false true c p q u z =
-      λ j. (or-left (not m) (fixedBad s r) z) j || fixed-kept (eqb-true (r .kind) 1 q) (or-right (not m) (fixedBad s r) z) j
-  pick-kept m false false true p q u z =
-      λ j. (or-left (not m) (alineaBad s r) z) j || alinea-kept (eqb-true (r .kind) 2 u) (or-right (not m) (alineaBad s r) z) j
-  pick-kept m false false false p q u z = z
+      → cond a (openBad q r) (cond b (not m || fixedBad q r) (cond c (not m || alineaBad q r) true)) ≡ false
+      → cond a (openBad q new) (cond b (not m || fixedBad q new) (cond c (not m || alineaBad q new) true)) ≡ false
+  pick-kept m true b c o f l z = open-kept (eqb-true (r .kind) 0 o) z
+  pick-kept m false true c o f l z =
+      λ j. (or-left (not m) (fixedBad q r) z) j || fixed-kept (eqb-true (r .kind) 1 f) (or-right (not m) (fixedBad q r) z) j
+  pick-kept m false false true o f l z =
+      λ j. (or-left (not m) (alineaBad q r) z) j || alinea-kept (eqb-true (r .kind) 2 l) (or-right (not m) (alineaBad q r) z) j
+  pick-kept m false false false o f l z = z
 
-  pub setting-kept : (m : Bool) → settingBad m s r ≡ false → settingBad m s new ≡ false
-  unfolding settingBad newState
+  pub setting-kept : (m : Bool) → settingBad m q r ≡ false → settingBad m q new ≡ false
+  unfolding settingBad rampNow
   setting-kept m z = pick-kept m (eqb (r .kind) 0) (eqb (r .kind) 1) (eqb (r .kind) 2) refl refl refl z
-
-  speed-within : SegmentOk h s f → Within f (new .speed)
-  unfolding newState newSpeed
-  speed-within S = keep-within f (S .slow) (S .fast) _
-
-  pub speed-formed : SegmentOk h s f → speedBad f (new .speed) ≡ false
-  speed-formed S = within-good f (new .speed) (speed-within S)

@@ -3,8 +3,7 @@
 use Prim.Native.Nat.{_+_, _*_, _≤_}
 use mathlib.Core.Path.{_≡_}
 use lib.ListN.{length}
-use Rattle.format.specs.Network.{Network, networkNumber, entryOf, segmentOf}
-use Rattle.format.specs.Network.{Formed}
+use Rattle.format.specs.Network.{Network, networkNumber, entryOf, segmentOf, Formed}
 use Rattle.metanet.specs.Case.{Case}
 use Rattle.metanet.specs.Step.{totalOf}
 use Rattle.metanet.specs.Sound.{caseNumber}

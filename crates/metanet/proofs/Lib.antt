@@ -17,6 +17,7 @@ pub mod Ready
 pub mod SameNetwork
 pub mod SegmentLaws
 pub mod SoundLaws
+pub mod StateWords
 pub mod Statements
 pub mod Turns
 pub mod Worked

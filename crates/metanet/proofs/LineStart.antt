@@ -24,12 +24,11 @@ use Rattle.metanet.specs.Case.{Case, noState, stateOf}
 use Rattle.metanet.specs.Speed.{area}
 use Rattle.metanet.specs.Step.{vehiclesIn, freeSpeed, totalOf}
 use Rattle.metanet.proofs.Ready.{SegmentOk}
-use Rattle.metanet.specs.Sound.{signBad, hasAlinea, openBad, settingBad}
+use Rattle.metanet.specs.Sound.{signBad, settingBad, flowsBad}
 use Rattle.metanet.proofs.SegmentLaws.{segment-ok}
 use Rattle.metanet.proofs.Formed.{within-good}
-use Rattle.metanet.specs.Start.{startState, startCase, startSegmentNumber, startNumber}
+use Rattle.metanet.specs.Start.{startState, startCase, startSegmentNumber, startNumber, handed}
 use Rattle.metanet.specs.Line.{caseOf, stepsOf, arrivalsOf, exitsOf}
-use Rattle.metanet.specs.Start.{handed}
 use Rattle.metanet.proofs.Good.{GoodNetwork, Good}
 use Rattle.metanet.proofs.CaseSound.{SoundAt, case-sound}
 use Rattle.metanet.proofs.Lines.{net-within}
@@ -89,7 +88,7 @@ module _ {w : Network} (net : GoodNetwork w) (mvs speeds queues : List ℕ) (z :
   start-le = omega (arith, sum-high (vehiclesIn (begun w mvs speeds queues .states)) 4200000 (w .head .size) each-le, net-within net .head .size-high)
 
   start-sound : (i : ℕ) → i < w .head .size → SoundAt (w .head) (entryOf w) (segmentOf w) (begun w mvs speeds queues .states) i
-  unfolding startState signBad settingBad openBad hasAlinea anyOf
+  unfolding startState flowsBad signBad settingBad anyOf
   start-sound i l =
       let a = judged i l in
       let fast = segments-ok i l .fast in
@@ -97,7 +96,9 @@ module _ {w : Network} (net : GoodNetwork w) (mvs speeds queues : List ℕ) (z :
       let f = freeSpeed (w .head) (entryOf w) (segmentOf w) i in
       rw (state-is w mvs speeds queues i l)
       (record {
-        figures = record { count = omega (arith, count-le i l); queue = omega (arith, a .waiting); outflow = omega arith; release = omega arith };
+        count = omega (arith, count-le i l);
+        queue = omega (arith, a .waiting);
+        flows = refl;
         sign = refl;
         setting = ap not (eq-eqb (segmentOf w i .most) (segmentOf w i .most) refl);
         speed = within-good f (real v) (record { low = real-le 1000 v (a .slow) (omega (arith, a .fast, fast)); high = real-le v f (a .fast) (omega (arith, fast)) });

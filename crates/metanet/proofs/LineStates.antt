@@ -18,12 +18,11 @@ use Rattle.format.specs.Network.{Network, entryOf, segmentOf}
 use Rattle.metanet.specs.declared.SegmentState.{SegmentState}
 use Rattle.metanet.specs.Case.{Case, noState, stateOf}
 use Rattle.metanet.specs.Step.{vehiclesIn, freeSpeed, onRamp, totalOf}
-use Rattle.metanet.specs.Sound.{signBad, hasAlinea, openBad, fixedBad, alineaBad, settingBad}
+use Rattle.metanet.specs.Sound.{signBad, settingBad}
 use Rattle.metanet.specs.declared.Setting.{Setting}
 use Rattle.metanet.specs.declared.Setting.the-variants.{Open, Fixed, Alinea}
-use Rattle.metanet.specs.Change.{complianceBad, complianceWord, signRefused, signedState, settingRefused, meteredState, withState}
-use Rattle.metanet.specs.Line.{Item, metered, Line, change, caseOf, itemSteps, handedIn, letOut}
-use Rattle.metanet.specs.Line.{signed}
+use Rattle.metanet.specs.Change.{complianceBad, complianceWord, signRefused, signedState, settingRefused, meteredState, withState, signFor, rampFor}
+use Rattle.metanet.specs.Line.{Item, metered, Line, change, caseOf, itemSteps, handedIn, letOut, signed}
 use Rattle.metanet.proofs.Good.{Good}
 use Rattle.metanet.proofs.CaseSound.{StateSound, SoundAt, case-state}
 use Rattle.metanet.proofs.Lines.{net-within, good-more}
@@ -83,10 +82,10 @@ raised-le : (compliance : ℤ) → complianceBad compliance ≡ false → compli
 raised-le (pos a) e = omega (arith, ltb-false 500 a e)
 raised-le (negsuc a) e = omega arith
 
-sign-good : (limit : ℕ) (compliance : ℤ) (r : SegmentState) → signRefused limit compliance ≡ false → signBad (signedState limit compliance r) ≡ false
+sign-good : (limit : ℕ) (compliance : ℤ) → signRefused limit compliance ≡ false → signBad (signFor limit compliance) ≡ false
 unfolding signBad
-sign-good zero compliance r e = refl
-sign-good (suc limit) compliance r e =
+sign-good zero compliance e = refl
+sign-good (suc limit) compliance e =
     let lit = ne-eqb (suc limit) 0 (suc-ne-zero limit) in
     let range : outside 20 (suc limit) 200 ≡ false = rw lit at (or-left (not (eqb (suc limit) 0) && outside 20 (suc limit) 200) (complianceBad compliance) e) in
     let high = raised-le compliance (or-right (not (eqb (suc limit) 0) && outside 20 (suc limit) 200) (complianceBad compliance) e) in
@@ -94,11 +93,12 @@ sign-good (suc limit) compliance r e =
 
 module _ {m : Bool} {s : Segment} {f : ℕ} {r : SegmentState} (ok : StateSound m s f r) where
   signed-sound : (limit : ℕ) (compliance : ℤ) → signRefused limit compliance ≡ false → StateSound m s f (signedState limit compliance r)
-  unfolding settingBad openBad fixedBad alineaBad hasAlinea
   signed-sound limit compliance e =
       record {
-        figures = record { count = ok .figures .count; queue = ok .figures .queue; outflow = ok .figures .outflow; release = ok .figures .release };
-        sign = sign-good limit compliance r e;
+        count = ok .count;
+        queue = ok .queue;
+        flows = ok .flows;
+        sign = sign-good limit compliance e;
         setting = ok .setting;
         speed = ok .speed;
       }
@@ -109,22 +109,23 @@ least-le : (q target gain least interval : ℕ) → settingRefused q (Alinea tar
 least-le q target gain least interval e = ltb-false q least (anyOf-false _ e 2)
 
 -- of a segment that may be metered
-setting-good : (s : Segment) (setting : Setting) (r : SegmentState) → settingRefused (s .most) setting ≡ false → settingBad true s (meteredState (s .most) setting r) ≡ false
-unfolding settingBad openBad fixedBad alineaBad hasAlinea anyOf
-setting-good s Open r e = ap not (eq-eqb (s .most) (s .most) refl)
-setting-good s (Fixed rate) r e = e
-setting-good s (Alinea target gain least interval) r e =
-    let rate = inside least (s .most) (s .most) (least-le (s .most) target gain least interval e) (omega arith) in
+setting-good : (q : ℕ) (setting : Setting) → settingRefused q setting ≡ false → settingBad true q (rampFor q setting) ≡ false
+unfolding settingBad anyOf
+setting-good q Open e = ap not (eq-eqb q q refl)
+setting-good q (Fixed rate) e = e
+setting-good q (Alinea target gain least interval) e =
+    let rate = inside least q q (least-le q target gain least interval e) (omega arith) in
     λ j. e j || rate j
 
 module _ {m : Bool} {s : Segment} {f : ℕ} {r : SegmentState} (ok : StateSound m s f r) where
   metered-sound : (setting : Setting) → m ≡ true → settingRefused (s .most) setting ≡ false → StateSound m s f (meteredState (s .most) setting r)
-  unfolding signBad
   metered-sound setting may e =
       record {
-        figures = record { count = ok .figures .count; queue = ok .figures .queue; outflow = ok .figures .outflow; release = ok .figures .release };
+        count = ok .count;
+        queue = ok .queue;
+        flows = ok .flows;
         sign = ok .sign;
-        setting = rw may (setting-good s setting r e);
+        setting = rw may (setting-good (s .most) setting e);
         speed = ok .speed;
       }
 

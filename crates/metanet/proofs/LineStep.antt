@@ -18,16 +18,16 @@ use Rattle.format.specs.declared.Segment.{Segment}
 use Rattle.format.specs.Network.{Network, entryOf, segmentOf}
 use Rattle.metanet.specs.declared.SegmentState.{SegmentState}
 use Rattle.metanet.specs.Case.{Case, stateOf}
-use Rattle.metanet.specs.Step.{vehiclesIn, freeSpeed, onRamp, neighbours, stepState, stepStates, exitsNow, stepOn, totalOf}
+use Rattle.metanet.specs.Step.{vehiclesIn, freeSpeed, onRamp, stepState, stepStates, exitsNow, stepOn, totalOf, newState}
 use Rattle.metanet.proofs.Ready.{SegmentOk, StateOk}
-use Rattle.metanet.specs.Sound.{arrivalNumber, stepNumber}
+use Rattle.metanet.specs.Sound.{arrivalNumber, stepNumber, mvMost}
 use Rattle.metanet.proofs.SegmentLaws.{segment-ok}
 use Rattle.metanet.proofs.SoundLaws.{state-ok}
-use Rattle.metanet.proofs.Formed.{sign-kept, setting-kept, speed-formed}
-use Rattle.metanet.proofs.Balance.{FiguresWithin, new-is, balance, figures-within}
+use Rattle.metanet.proofs.Formed.{setting-kept, within-good}
+use Rattle.metanet.proofs.Balance.{FiguresWithin, new-is, balance, figures-within, new-within}
 use Rattle.metanet.specs.Line.{stepped, Line, change, caseOf, stepsOf, handedIn, letOut}
 use Rattle.metanet.proofs.Good.{Good}
-use Rattle.metanet.proofs.CaseSound.{state-sound, SoundAt}
+use Rattle.metanet.proofs.CaseSound.{state-sound, SoundAt, flows-sound}
 use Rattle.metanet.proofs.Lines.{net-within, total-le, Changed, good-more}
 use Rattle.metanet.proofs.LineStates.{old-state}
 
@@ -59,7 +59,7 @@ module _ {w : Network} {s : Case} {l : Line} (g : Good w s l) (ds : List ℕ) (z
   segments-ok = segment-ok (net-within (g .net))
 
   states-ok : (i : ℕ) → i < h .size → StateOk (segmentOf w i) (freeSpeed h (entryOf w) (segmentOf w) i) (stateOf (c .states) i)
-  states-ok i k = state-ok (segmentOf w i) (stateOf (c .states) i) (onRamp h (entryOf w) (segmentOf w) i) _ (segments-ok i k .most-high) (state-sound _ _ _ _ (old-state g i k))
+  states-ok i k = state-ok (segmentOf w i) (stateOf (c .states) i) (onRamp h (entryOf w) (segmentOf w) i) _ (state-sound _ _ _ _ (old-state g i k))
 
   came-le : sumOf (λ i. getD ds i 0) (h .size) ≤ 40000000
   came-le =
@@ -71,33 +71,26 @@ module _ {w : Network} {s : Case} {l : Line} (g : Good w s l) (ds : List ℕ) (z
   spent : h .step * totalOf w c ≤ 60 * 800168000000
   spent = mul-le-mul (net-within (g .net) .head .step-high) (total-le g)
 
-  figures-le : (i : ℕ) → i < h .size → FiguresWithin (stateOf new i) 1000000000000
+  figures-le : (i : ℕ) → i < h .size → FiguresWithin (stateOf new i) mvMost
   figures-le i k =
-      let f = figures-within h (entryOf w) (segmentOf w) (c .states) (c .steps) ds segments-ok states-ok i k in
-      let t = total-le g in
-      record {
-        count = omega (arith, f .count, t, came-le);
-        queue = omega (arith, f .queue, t, came-le);
-        outflow = omega (arith, f .outflow, t, came-le);
-        release = omega (arith, f .release, t, came-le);
-      }
+      let all : totalOf w c + sumOf (λ i. getD ds i 0) (h .size) ≤ mvMost = omega (arith, total-le g, came-le) in
+      figures-within h (entryOf w) (segmentOf w) (c .states) (c .steps) ds segments-ok states-ok mvMost i all k
 
   new-state : (i : ℕ) → i < h .size → SoundAt h (entryOf w) (segmentOf w) new i
-  unfolding stepState
+  unfolding stepState newState
   new-state i k =
       let e = entryOf w in
       let m = onRamp h e (segmentOf w) i in
-      let f = freeSpeed h e (segmentOf w) i in
       let r = stateOf (c .states) i in
-      let d = getD ds i 0 in
-      let o = neighbours h e (segmentOf w) (c .states) i in
       let is = new-is h e (segmentOf w) (c .states) (c .steps) ds segments-ok states-ok i k in
       let old = old-state g i k in
       record {
-        figures = figures-le i k;
-        sign = rw is (sign-kept h (segmentOf w i) f r (c .steps) d m o ∙ old .sign);
-        setting = rw is (setting-kept h (segmentOf w i) f r (c .steps) d m o m (old .setting));
-        speed = rw is (speed-formed h (segmentOf w i) f r (c .steps) d m o (segments-ok i k));
+        count = figures-le i k .count;
+        queue = figures-le i k .queue;
+        flows = flows-sound (figures-le i k .flows);
+        sign = rw is (old .sign);
+        setting = rw is (setting-kept (segmentOf w i) (r .count) (r .ramp) (c .steps) m (old .setting));
+        speed = within-good (freeSpeed h e (segmentOf w) i) _ (new-within h e (segmentOf w) (c .states) (c .steps) ds segments-ok states-ok i k);
       }
 
   step-changes : Changed w c (stepped ds)

@@ -11,6 +11,8 @@ use Rattle.format.specs.declared.Head.{Head}
 use Rattle.format.specs.declared.Segment.{Segment}
 use Rattle.format.proofs.Accepted.{RowsWithin}
 use Rattle.format.specs.Words.{headIn, entryIn, segmentIn}
+use Rattle.metanet.specs.declared.SignSetting.{SignSetting}
+use Rattle.metanet.specs.declared.Ramp.{Ramp}
 use Rattle.metanet.specs.declared.SegmentState.{SegmentState}
 use Rattle.metanet.specs.Case.{alineaKind}
 use Rattle.metanet.specs.Speed.{area}
@@ -39,17 +41,23 @@ pub record SegmentOk (h : Head) (s : Segment) (f : ℕ) : Type 0 where
   pub fast : f ≤ 200000
   pub reach : f * h .step ≤ 3600 * s .metres
 
--- what a step asks of a state: less than that it is sound
+-- what a step asks of a state: less than that it is sound. q is the segment's Q
+pub record SignOk (r : SignSetting) : Type 0 where
+  pub limit : r .limit ≤ 200
+  pub compliance : r .compliance ≤ 1000
+
+pub record RampOk (q : ℕ) (r : Ramp) : Type 0 where
+  pub rate : r .rate ≤ q
+  pub target : r .target ≤ 199
+  pub gain : r .gain ≤ 60000
+  pub least : r .least ≤ q
+  pub interval : r .kind ≡ alineaKind → 0 < r .interval
+
 pub record StateOk (s : Segment) (f : ℕ) (r : SegmentState) : Type 0 where
   pub count : r .count ≤ 1000000000000
   pub queue : r .queue ≤ 1000000000000
-  pub limit : r .limit ≤ 200
-  pub compliance : r .compliance ≤ 1000
-  pub rate : r .rate ≤ 300000
-  pub target : r .target ≤ 199
-  pub gain : r .gain ≤ 60000
-  pub least : r .least ≤ s .most
-  pub interval : r .kind ≡ alineaKind → 0 < r .interval
+  pub sign : SignOk (r .sign)
+  pub ramp : RampOk (s .most) (r .ramp)
   pub low : T (le (real 1000) (r .speed))
   pub high : T (le (r .speed) (real f))
 

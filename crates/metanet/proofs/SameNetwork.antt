@@ -42,8 +42,8 @@ module _ (h : Head) (e f : ℕ → ℕ → ℕ) (s u : ℕ → Segment)
   want-same : (r : SegmentState) (i : ℕ) → i < h .size → desiredSpeed (e (s i .curve)) (s i) r ≡ desiredSpeed (f (u i .curve)) (u i) r
   unfolding desiredSpeed
   want-same r i l =
-      ap (λ (v : Float). underSign v (signOf r)) (curve-speed-same (e (s i .curve)) (f (s i .curve)) (r .count) (area (s i)) (λ j m. entries (s i .curve) j (curves i l) m))
-      ∙ ap (λ (x : Segment). underSign (curveSpeed (f (x .curve)) (r .count) (area x)) (signOf r)) (segments i l)
+      ap (λ (v : Float). underSign v (signOf (r .sign))) (curve-speed-same (e (s i .curve)) (f (s i .curve)) (r .count) (area (s i)) (λ j m. entries (s i .curve) j (curves i l) m))
+      ∙ ap (λ (x : Segment). underSign (curveSpeed (f (x .curve)) (r .count) (area x)) (signOf (r .sign))) (segments i l)
 
   module _ (states : List SegmentState) where
     inflow-same : (i : ℕ) → i ≤ h .size → inflow h e s states i ≡ inflow h f u states i

@@ -12,12 +12,13 @@ use Rattle.format.specs.declared.Head.{Head}
 use Rattle.format.specs.declared.Segment.{Segment}
 use Rattle.format.specs.Words.{headIn, entryIn, segmentIn}
 use Rattle.format.proofs.Accepted.{RowsWithin}
+use Rattle.metanet.specs.declared.Ramp.{Ramp}
 use Rattle.metanet.specs.declared.SegmentState.{SegmentState}
 use Rattle.metanet.specs.Case.{openKind, alineaKind}
 use Rattle.metanet.specs.Flow.{exitPart, alineaRate, moved, rateChange}
 use Rattle.metanet.specs.Speed.{area, keep}
-use Rattle.metanet.specs.Step.{rateOf, rateNow, releaseNow, outflowNow, through}
-use Rattle.metanet.proofs.Ready.{AreaOk, SegmentOk, StateOk}
+use Rattle.metanet.specs.Step.{rateOf, rateNow, rampNow, releaseNow, outflowNow, through}
+use Rattle.metanet.proofs.Ready.{AreaOk, SegmentOk, RampOk, StateOk}
 
 -- ---- what acceptance of the network says of segment i
 
@@ -47,6 +48,17 @@ SegmentIn net i = SegmentOk (headIn net) (segmentIn net i) (entryIn net (segment
 pub area-ok : {h : Head} {s : Segment} {f : ℕ} → SegmentOk h s f → AreaOk s
 area-ok S = record { metres-low = omega (arith, S .metres-low); metres-high = S .metres-high; lanes-low = S .lanes-low; lanes-high = S .lanes-high }
 
+-- ---- the rate stays at most Q
+
+pub rate-high : (s : Segment) {r : Ramp} → RampOk (s .most) r → (n t : ℕ) → rampNow s n r t .rate ≤ s .most
+unfolding rampNow rateNow rateOf alineaRate
+rate-high s {r} R n t = pick (eqb (r .kind) alineaKind && eqb (t % r .interval) 0) (eqb (r .kind) openKind)
+  where
+    pick : (b c : Bool) → cond b (max (r .least) (min (moved (r .rate) (rateChange (r .gain) (r .target) (area s) n)) (s .most))) (cond c (s .most) (r .rate)) ≤ s .most
+    pick true c = omega (arith, R .least)
+    pick false true = omega arith
+    pick false false = R .rate
+
 -- ---- no more leaves than is there
 
 -- no more leaves by the exit than flows out
@@ -65,15 +77,6 @@ module _ {h : Head} {s : Segment} {f : ℕ} {r : SegmentState} (S : SegmentOk h 
 
   pub whole-speed-high : toUnsigned 64 (r .speed) ≤ f
   whole-speed-high = whole-high 1000 f (r .speed) (lit< tt) (S .slow) (omega (arith, S .fast)) (R .low) (R .high)
-
-  pub rate-high : (t : ℕ) → rateNow s r t ≤ 300000
-  unfolding rateNow rateOf alineaRate
-  rate-high t = pick (eqb (r .kind) alineaKind && eqb (t % r .interval) 0) (eqb (r .kind) openKind)
-    where
-      pick : (b c : Bool) → cond b (max (r .least) (min (moved (r .rate) (rateChange (r .gain) (r .target) (area s) (r .count))) (s .most))) (cond c (s .most) (r .rate)) ≤ 300000
-      pick true c = omega (arith, S .most-high, R .least)
-      pick false true = S .most-high
-      pick false false = R .rate
 
   pub release-waits : (t d : ℕ) → releaseNow s r t d ≤ r .queue + d
   unfolding releaseNow

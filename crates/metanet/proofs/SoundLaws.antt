@@ -10,22 +10,22 @@ use lib.Dec.{T, ltb, eqb}
 use lib.ListN.{length, getD}
 use lib.Ieee.{Float, le}
 use borrow.Author.Tests.{ltb-false, eqb-true, not-false}
-use Rattle.laws.specs.First.{outside, row, first}
+use Rattle.laws.specs.First.{outside, row, first, firstOf}
 use Rattle.laws.specs.Real.{real}
 use Rattle.laws.specs.Sums.{sumOf}
 use Rattle.laws.proofs.First.{row-passed, row-later, first-some, first-zero, first-zero-left, first-zero-right, firstOf-zero}
-use Rattle.laws.specs.First.{firstOf}
 use Rattle.laws.proofs.Sums.{sum-ext}
 use Rattle.laws.proofs.Lists.{getD-table}
 use Rattle.format.specs.Words.{headIn, entryIn, segmentIn}
 use Rattle.laws.proofs.Tests.{or-left, or-right, and-left, and-right, anyOf-false, inside-low, inside-high}
 use Rattle.format.specs.declared.Segment.{Segment}
+use Rattle.metanet.specs.declared.SignSetting.{SignSetting}
+use Rattle.metanet.specs.declared.Ramp.{Ramp}
 use Rattle.metanet.specs.declared.SegmentState.{SegmentState}
 use Rattle.metanet.specs.Case.{noState, stateOf, alineaKind}
 use Rattle.metanet.specs.Step.{vehiclesIn, freeSpeed, onRamp}
 use Rattle.metanet.specs.Words.{netOf, stateIn, stateAt, statesIn, caseIn}
-use Rattle.metanet.proofs.Ready.{StateOk, CaseAt, Ready, TotalsOk, vehiclesAt}
-use Rattle.metanet.proofs.SegmentLaws.{segment-ok}
+use Rattle.metanet.proofs.Ready.{SignOk, RampOk, StateOk, CaseAt, Ready, TotalsOk, vehiclesAt}
 use Rattle.metanet.specs.Sound.{signBad, hasAlinea, openBad, fixedBad, alineaBad, settingBad, speedBad, stateBad, totalsBad, stateNumber, caseNumber, arrivalNumber, stepNumber}
 
 pub state-read : (words : List ℕ) (speeds : List Float) (at from n i : ℕ) → i < n → stateOf (statesIn words speeds at from n) i ≡ stateAt words speeds at from i
@@ -45,22 +45,21 @@ vehicles-sum words speeds at from n = sum-ext (vehiclesAt words at) (vehiclesIn 
 truth : {b : Bool} → b ≡ true → T b
 truth e = subst T (sym e) tt
 
-sign-limits : (b : Bool) (l a : ℕ) → eqb l 0 ≡ b → cond b (ltb 0 a) (outside 20 l 200 || ltb 1000 a) ≡ false → (l ≤ 200) × (a ≤ 1000)
-sign-limits true l a e z = (omega (arith, eqb-true l 0 e), omega (arith, ltb-false 0 a z))
-sign-limits false l a e z =
-    (inside-high 20 l 200 (or-left (outside 20 l 200) (ltb 1000 a) z), ltb-false 1000 a (or-right (outside 20 l 200) (ltb 1000 a) z))
+sign-ok : (r : SignSetting) → signBad r ≡ false → SignOk r
+unfolding signBad
+sign-ok r z = pick (eqb (r .limit) 0) refl z
+  where
+    pick : (b : Bool) → eqb (r .limit) 0 ≡ b → cond b (ltb 0 (r .compliance)) (outside 20 (r .limit) 200 || ltb 1000 (r .compliance)) ≡ false → SignOk r
+    pick true e z = record { limit = omega (arith, eqb-true (r .limit) 0 e); compliance = omega (arith, ltb-false 0 (r .compliance) z) }
+    pick false e z =
+        record {
+          limit = inside-high 20 (r .limit) 200 (or-left (outside 20 (r .limit) 200) _ z);
+          compliance = ltb-false 1000 (r .compliance) (or-right (outside 20 (r .limit) 200) _ z);
+        }
 
--- the figures of a setting
-record Setting (s : Segment) (r : SegmentState) : Type 0 where
-  rate : r .rate ≤ s .most
-  target : r .target ≤ 199
-  gain : r .gain ≤ 60000
-  least : r .least ≤ s .most
-  interval : r .kind ≡ alineaKind → 0 < r .interval
-
-module _ (s : Segment) (r : SegmentState) where
+module _ (q : ℕ) (r : Ramp) where
   -- of a setting that is not ALINEA's
-  plain : hasAlinea r ≡ false → r .rate ≤ s .most → (r .kind ≡ alineaKind → ⊥) → Setting s r
+  plain : hasAlinea r ≡ false → r .rate ≤ q → (r .kind ≡ alineaKind → ⊥) → RampOk q r
   unfolding hasAlinea
   plain z rate other =
       let no = anyOf-false _ z in
@@ -72,58 +71,50 @@ module _ (s : Segment) (r : SegmentState) where
         interval = λ e. absurd (other e);
       }
 
-  open-setting : (r .kind ≡ alineaKind → ⊥) → openBad s r ≡ false → Setting s r
+  open-ok : (r .kind ≡ alineaKind → ⊥) → openBad q r ≡ false → RampOk q r
   unfolding openBad
-  open-setting other z =
-      plain (or-left (hasAlinea r) _ z) (le-of-eq (eqb-true (r .rate) (s .most) (not-false _ (or-right (hasAlinea r) (not (eqb (r .rate) (s .most))) z)))) other
+  open-ok other z = plain (or-left (hasAlinea r) _ z) (le-of-eq (eqb-true (r .rate) q (not-false _ (or-right (hasAlinea r) (not (eqb (r .rate) q)) z)))) other
 
-  fixed-setting : (r .kind ≡ alineaKind → ⊥) → fixedBad s r ≡ false → Setting s r
+  fixed-ok : (r .kind ≡ alineaKind → ⊥) → fixedBad q r ≡ false → RampOk q r
   unfolding fixedBad
-  fixed-setting other z = plain (or-left (hasAlinea r) _ z) (ltb-false _ _ (or-right (hasAlinea r) (ltb (s .most) (r .rate)) z)) other
+  fixed-ok other z = plain (or-left (hasAlinea r) _ z) (ltb-false _ _ (or-right (hasAlinea r) (ltb q (r .rate)) z)) other
 
-  alinea-setting : alineaBad s r ≡ false → Setting s r
+  alinea-ok : alineaBad q r ≡ false → RampOk q r
   unfolding alineaBad
-  alinea-setting z =
+  alinea-ok z =
       let no = anyOf-false _ z in
       record {
-        rate = inside-high (r .least) (r .rate) (s .most) (no 4);
+        rate = inside-high (r .least) (r .rate) q (no 4);
         target = inside-high 1 (r .target) 199 (no 0);
         gain = inside-high 1 (r .gain) 60000 (no 1);
         least = ltb-false _ _ (no 2);
         interval = λ e. inside-low 1 (r .interval) 60 (no 3);
       }
 
-  pick-setting : (m a b c : Bool) → eqb (r .kind) 0 ≡ a → eqb (r .kind) 1 ≡ b → eqb (r .kind) 2 ≡ c
-      → cond a (openBad s r) (cond b (not m || fixedBad s r) (cond c (not m || alineaBad s r) true)) ≡ false → Setting s r
-  pick-setting m true b c p q t z = open-setting (λ e. omega (arith, e, eqb-true (r .kind) 0 p)) z
-  pick-setting m false true c p q t z = fixed-setting (λ e. omega (arith, e, eqb-true (r .kind) 1 q)) (or-right (not m) (fixedBad s r) z)
-  pick-setting m false false true p q t z = alinea-setting (or-right (not m) (alineaBad s r) z)
-  pick-setting m false false false p q t z = absurd (true≢false z)
-
-  setting-of : (m : Bool) → settingBad m s r ≡ false → Setting s r
+  ramp-ok : (m : Bool) → settingBad m q r ≡ false → RampOk q r
   unfolding settingBad
-  setting-of m z = pick-setting m _ _ _ refl refl refl z
+  ramp-ok m z = pick (eqb (r .kind) 0) (eqb (r .kind) 1) (eqb (r .kind) 2) refl refl z
+    where
+      pick : (a b c : Bool) → eqb (r .kind) 0 ≡ a → eqb (r .kind) 1 ≡ b
+          → cond a (openBad q r) (cond b (not m || fixedBad q r) (cond c (not m || alineaBad q r) true)) ≡ false → RampOk q r
+      pick true b c o f z = open-ok (λ e. omega (arith, e, eqb-true (r .kind) 0 o)) z
+      pick false true c o f z = fixed-ok (λ e. omega (arith, e, eqb-true (r .kind) 1 f)) (or-right (not m) (fixedBad q r) z)
+      pick false false true o f z = alinea-ok (or-right (not m) (alineaBad q r) z)
+      pick false false false o f z = absurd (true≢false z)
 
-  pub state-ok : (m : Bool) (f : ℕ) → s .most ≤ 300000 → stateBad m s f r ≡ false → StateOk s f r
-  unfolding stateBad signBad speedBad
-  state-ok m f most z =
-      let no = anyOf-false _ z in
-      let sign = sign-limits _ (r .limit) (r .compliance) refl (no 4) in
-      let setting = setting-of m (no 5) in
-      let speed = not-false _ (no 6) in
-      record {
-        count = ltb-false _ _ (no 0);
-        queue = ltb-false _ _ (no 1);
-        limit = sign .0;
-        compliance = sign .1;
-        rate = omega (arith, setting .rate);
-        target = setting .target;
-        gain = setting .gain;
-        least = setting .least;
-        interval = setting .interval;
-        low = truth (and-left (le (real 1000) (r .speed)) (le (r .speed) (real f)) speed);
-        high = truth (and-right (le (real 1000) (r .speed)) (le (r .speed) (real f)) speed);
-      }
+pub state-ok : (s : Segment) (r : SegmentState) (m : Bool) (f : ℕ) → stateBad m s f r ≡ false → StateOk s f r
+unfolding stateBad speedBad
+state-ok s r m f z =
+    let no = anyOf-false _ z in
+    let speed = not-false _ (no 5) in
+    record {
+      count = ltb-false _ _ (no 0);
+      queue = ltb-false _ _ (no 1);
+      sign = sign-ok (r .sign) (no 3);
+      ramp = ramp-ok (s .most) (r .ramp) m (no 4);
+      low = truth (and-left (le (real 1000) (r .speed)) (le (r .speed) (real f)) speed);
+      high = truth (and-right (le (real 1000) (r .speed)) (le (r .speed) (real f)) speed);
+    }
 
 -- ---- what a sound case says
 
@@ -139,11 +130,10 @@ module _ {words : List ℕ} {speeds : List Float} {at from n : ℕ} (at-place : 
       → StateOk (segmentIn net i) (entryIn net (segmentIn net i .curve) 0) (stateAt words speeds at from i)
   unfolding stateNumber
   state-sound i l z =
-      let S = segment-ok (at-place .net) i (omega (arith, at-place .size)) in
       let h = headIn net in
       let e = entryIn net in
       let s = segmentIn net in
-      rw (state-read words speeds at from n i l) at (state-ok (s i) (stateOf states i) (onRamp h e s i) (freeSpeed h e s i) (S .most-high) (row-passed _ _ _ z))
+      rw (state-read words speeds at from n i l) at (state-ok (s i) (stateOf states i) (onRamp h e s i) (freeSpeed h e s i) (row-passed _ _ _ z))
 
   module _ (z : firstOf (stateNumber (headIn net) (entryIn net) (segmentIn net) states) n ≡ 0) where
     pub states-sound : (i : ℕ) → i < n → StateOk (segmentIn net i) (entryIn net (segmentIn net i .curve) 0) (stateAt words speeds at from i)

@@ -6,7 +6,7 @@ use native.Mathlib.Omega.{arith}
 use mathlib.Core.Path.{_≡_, refl, sym, ap, _∙_}
 use mathlib.Core.Bool.{Bool, true, false}
 use mathlib.Core.List.{List, _∷_, _++_}
-use lib.ListN.{length, take, drop, set, getD, length-drop, length-take, length-set}
+use lib.ListN.{length, take, drop, set, getD, length-drop, length-take}
 use lib.Seq.{take-take, getD-drop, drop-drop, set-split}
 use lib.Dec.{ltb}
 use borrow.Author.Tests.{ltb-true}
@@ -22,6 +22,7 @@ use Rattle.metanet.specs.Words.{netOf, stateIn, stateAt, statesIn, stepp
 use Rattle.metanet.proofs.Ready.{Ready, NewStateOk, afterIn, newStateIn}
 use Rattle.metanet.proofs.SoundLaws.{state-read}
 use Rattle.metanet.proofs.SegmentLaws.{SegmentIn, segment-ok, through-at-most-count, outflow-at-most-count, exit-le}
+use Rattle.metanet.proofs.StateWords.{length-stepped}
 
 -- what the segment before i passes on, of the case in ws and vs
 abbrev pub inflowIn : List ℕ → List Float → ℕ → ℕ → ℕ → ℕ → ℕ
@@ -63,8 +64,7 @@ module _ {ws : List ℕ} {vs : List Float} {ds : List ℕ} {at from n : ℕ} (ok
   segment-at i h = segment-ok (ok .net) i (at-size i h)
 
   pub words-each : (t k : ℕ) → k < n → length (state-words t k) ≡ 16
-  unfolding steppedWords
-  words-each t k h = simp (length-set, length-take, length-drop) (omega (arith, ok .room))
+  words-each t k h = length-stepped _ _ ∙ simp (length-take, length-drop) (omega (arith, ok .room))
 
   pub speeds-each : (t k : ℕ) → k < n → length (state-speeds t k) ≡ 1
   speeds-each t k h = refl
@@ -180,22 +180,22 @@ module _ {ws : List ℕ} {vs : List Float} {ds : List ℕ} {at from n : ℕ} (ok
           rest : drop k (drop (at + 16 * i) words) ≡ drop (at + 16 * i + 16) (puts 16 (state-words t) at i ws)
           rest = ap (λ (m : ℕ). drop m (drop (at + 16 * i) words)) s ∙ drop-drop 16 (at + 16 * i) words ∙ ap (drop (at + 16 * i + 16)) (u .words-are)
 
-      out-high : r .outflow ≤ 1000000000000
+      out-high : r .flows .outflow ≤ 1000000000000
       unfolding stepState newState
       out-high =
           rw is-new (rw (state-is i h) (le-trans (outflow-at-most-count (segment-at i h) (ok .state i h)) (ok .state i h .count)))
 
-      pub pass-ok : ((2560 ≤ length words) × (i < 40) × (r .outflow ≤ 1000000000000)) × (segmentIn (netOf words) i .exit ≤ 1000)
+      pub pass-ok : ((2560 ≤ length words) × (i < 40) × (r .flows .outflow ≤ 1000000000000)) × (segmentIn (netOf words) i .exit ≤ 1000)
       pass-ok = ((omega (arith, same-words, ok .past, ok .room), omega (arith, size-high), out-high), rw net-same (segment-at i h .exit-high))
 
-      out-is : r .outflow ≡ outflowNow (headIn (netOf ws)) (segmentIn (netOf ws) i) (stateOf (statesIn ws vs at from n) i)
+      out-is : r .flows .outflow ≡ outflowNow (headIn (netOf ws)) (segmentIn (netOf ws) i) (stateOf (statesIn ws vs at from n) i)
       unfolding stepState newState
-      out-is = ap (λ (x : SegmentState). x .outflow) is-new
+      out-is = ap (λ (x : SegmentState). x .flows .outflow) is-new
 
       -- what does not pass on leaves by the exit
-      pub exit-is : {pass : ℕ} → pass ≡ r .outflow - exitPart (r .outflow) (segmentIn (netOf words) i .exit) → r .outflow - pass ≡ exitIn ws vs at from n i
+      pub exit-is : {pass : ℕ} → pass ≡ r .flows .outflow - exitPart (r .flows .outflow) (segmentIn (netOf words) i .exit) → r .flows .outflow - pass ≡ exitIn ws vs at from n i
       exit-is {pass} q =
-          back (r .outflow) (exitPart (r .outflow) (segmentIn (netOf words) i .exit)) pass (exit-le (r .outflow) (segmentIn (netOf words) i .exit) (pass-ok .1)) q
+          back (r .flows .outflow) (exitPart (r .flows .outflow) (segmentIn (netOf words) i .exit)) pass (exit-le (r .flows .outflow) (segmentIn (netOf words) i .exit) (pass-ok .1)) q
           ∙ (λ j. exitPart (out-is j) (segmentIn (net-same j) i .exit))
         where
           back : (o x y : ℕ) → x ≤ o → y ≡ o - x → o - y ≡ x
@@ -214,16 +214,16 @@ module _ {ws : List ℕ} {vs : List Float} {ds : List ℕ} {at from n : ℕ} (ok
           step : suc (from + i) ≡ from + 1 * i + 1
           step = omega arith
 
-      passes : r .outflow - exitPart (r .outflow) (segmentIn (netOf words) i .exit) ≡ inflowIn ws vs at from n (i + 1)
+      passes : r .flows .outflow - exitPart (r .flows .outflow) (segmentIn (netOf words) i .exit) ≡ inflowIn ws vs at from n (i + 1)
       unfolding inflow through stepState newState
-      passes = simp (add-one, net-same, ap (λ (x : SegmentState). x .outflow) is-new)
+      passes = simp (add-one, net-same, ap (λ (x : SegmentState). x .flows .outflow) is-new)
 
       slower : getD speeds (from + i) nan ≡ upstream (statesIn ws vs at from n) (i + 1)
       unfolding upstream stateIn
       slower = speed-same ∙ ap (λ (x : SegmentState). x .speed) (sym (state-is i h)) ∙ ap (upstream (statesIn ws vs at from n)) (sym (add-one i))
 
       pub turn-next : {k : ℕ} {ys : List ℕ} {pass : ℕ} → k ≡ 16 → ys ≡ steppedWords (part (at + 16 * i) k words) r
-          → pass ≡ r .outflow - exitPart (r .outflow) (segmentIn (netOf words) i .exit)
+          → pass ≡ r .flows .outflow - exitPart (r .flows .outflow) (segmentIn (netOf words) i .exit)
           → Turn ws vs ds at from n t (take (at + 16 * i) words ++ (ys ++ drop k (drop (at + 16 * i) words))) (set speeds (from + i) (r .speed)) (i + 1) (getD speeds (from + i) nan) pass
       turn-next s y q =
           record {

@@ -1,11 +1,20 @@
--- A case: a state for each segment, and its totals. The struct Row of the source is the state:
--- count N, queue w, sign (limit 0 is dark; compliance with 500 added), setting (kind, target, gain, least, interval z), rate R,
--- last outflow, last release, speed v.
+-- A case: the state of each segment, and the totals of its line so far. A state is N, the queue w, the speed v and three parts: what the
+-- sign is set to, the ramp with its setting and its rate R, and the flows of the last step (src/lib.rt has their figures and units).
 use Prim.Native.Nat.{ℕ}
 use mathlib.Core.List.{List}
 use lib.ListN.{getD}
-use lib.Ieee.{nan}
+use lib.Ieee.{Float, nan}
+use Rattle.metanet.specs.declared.SignSetting.{SignSetting}
+use Rattle.metanet.specs.declared.Ramp.{Ramp}
+use Rattle.metanet.specs.declared.Flows.{Flows}
 use Rattle.metanet.specs.declared.SegmentState.{SegmentState}
+
+pub record Case : Type 0 where
+  pub states : List SegmentState
+  pub steps : ℕ
+  pub arrivals : ℕ
+  pub exits : ℕ
+  pub time : ℕ
 
 -- the kinds of setting: open, fixed, ALINEA
 abbrev pub openKind : ℕ
@@ -17,16 +26,30 @@ fixedKind = 1
 abbrev pub alineaKind : ℕ
 alineaKind = 2
 
-pub record Case : Type 0 where
-  pub states : List SegmentState
-  pub steps : ℕ
-  pub arrivals : ℕ
-  pub exits : ℕ
-  pub time : ℕ
+-- ---- a state with its ramp open, its sign dark, flows 0
+
+abbrev pub darkSign : SignSetting
+darkSign = record { limit = 0; compliance = 0 }
+
+-- a ramp that is not ALINEA's
+abbrev pub plainRamp : ℕ → ℕ → Ramp
+plainRamp kind rate = record { kind = kind; rate = rate; target = 0; gain = 0; least = 0; interval = 0 }
+
+-- R of an open segment is its Q
+abbrev pub openRamp : ℕ → Ramp
+openRamp most = plainRamp openKind most
+
+abbrev pub noFlows : Flows
+noFlows = record { outflow = 0; release = 0 }
+
+abbrev pub openState : ℕ → ℕ → ℕ → Float → SegmentState
+openState count queue most speed =
+    record { count = count; queue = queue; sign = darkSign; ramp = openRamp most; flows = noFlows; speed = speed }
+
+-- ---- state i, counted from 0
 
 abbrev pub noState : SegmentState
-noState = record { count = 0; queue = 0; limit = 0; compliance = 0; kind = 0; rate = 0; target = 0; gain = 0; least = 0; interval = 0; outflow = 0; release = 0; speed = nan }
+noState = openState 0 0 0 nan
 
--- state i, counted from 0
 abbrev pub stateOf : List SegmentState → ℕ → SegmentState
 stateOf states i = getD states i noState

@@ -6,8 +6,10 @@ use lib.Dec.{ltb, eqb}
 use lib.IntN.{ℤ, pos, negsuc}
 use lib.ListN.{set}
 use Rattle.laws.specs.First.{anyOf, outside}
+use Rattle.metanet.specs.declared.SignSetting.{SignSetting}
+use Rattle.metanet.specs.declared.Ramp.{Ramp}
 use Rattle.metanet.specs.declared.SegmentState.{SegmentState}
-use Rattle.metanet.specs.Case.{Case, openKind, fixedKind, alineaKind}
+use Rattle.metanet.specs.Case.{Case, darkSign, fixedKind, alineaKind, plainRamp, openRamp}
 use Rattle.metanet.specs.declared.Setting.{Setting}
 use Rattle.metanet.specs.declared.Setting.the-variants.{Open, Fixed, Alinea}
 
@@ -23,91 +25,38 @@ abbrev pub complianceWord : ℤ → ℕ
 complianceWord (pos a) = 500 + a
 complianceWord (negsuc a) = 499 - a
 
--- a dark sign keeps no compliance
-abbrev pub keptCompliance : ℕ → ℤ → ℕ
-keptCompliance zero compliance = 0
-keptCompliance (suc limit) compliance = complianceWord compliance
-
 -- 18: limit neither 0 nor 20..200, or compliance outside −500..500
 abbrev pub signRefused : ℕ → ℤ → Bool
 signRefused limit compliance = (not (eqb limit 0) && outside 20 limit 200) || complianceBad compliance
 
+-- a dark sign keeps no compliance
+abbrev pub signFor : ℕ → ℤ → SignSetting
+signFor zero compliance = darkSign
+signFor (suc limit) compliance = record { limit = suc limit; compliance = complianceWord compliance }
+
 abbrev pub signedState : ℕ → ℤ → SegmentState → SegmentState
 signedState limit compliance r =
-    record {
-      count = r .count;
-      queue = r .queue;
-      limit = limit;
-      compliance = keptCompliance limit compliance;
-      kind = r .kind;
-      rate = r .rate;
-      target = r .target;
-      gain = r .gain;
-      least = r .least;
-      interval = r .interval;
-      outflow = r .outflow;
-      release = r .release;
-      speed = r .speed;
-    }
+    record { count = r .count; queue = r .queue; sign = signFor limit compliance; ramp = r .ramp; flows = r .flows; speed = r .speed }
 
--- ---- Meter: open, or fixed at 0..Q mv, or ALINEA with target 1..199, gain 1..60,000 mv, least 0..Q, z 1..60 steps; q is Q
+-- ---- Meter: open, or fixed at 0..Q mv, or ALINEA with target 1..199, gain 1..60,000 mv, least 0..Q, z 1..60 steps; most is Q
 
 -- 20
 abbrev pub settingRefused : ℕ → Setting → Bool
-settingRefused q Open = anyOf []
-settingRefused q (Fixed rate) = ltb q rate
-settingRefused q (Alinea target gain least interval) =
-    anyOf (outside 1 target 199 ∷ outside 1 gain 60000 ∷ ltb q least ∷ outside 1 interval 60 ∷ [])
+settingRefused most Open = anyOf []
+settingRefused most (Fixed rate) = ltb most rate
+settingRefused most (Alinea target gain least interval) =
+    anyOf (outside 1 target 199 ∷ outside 1 gain 60000 ∷ ltb most least ∷ outside 1 interval 60 ∷ [])
 
-abbrev pub kindOf : Setting → ℕ
-kindOf Open = openKind
-kindOf (Fixed rate) = fixedKind
-kindOf (Alinea target gain least interval) = alineaKind
-
--- R of an open segment is its Q; ALINEA begins at R = Q
-abbrev pub rateFor : ℕ → Setting → ℕ
-rateFor q Open = q
-rateFor q (Fixed rate) = rate
-rateFor q (Alinea target gain least interval) = q
-
--- the figures that only ALINEA has
-abbrev pub targetOf : Setting → ℕ
-targetOf Open = 0
-targetOf (Fixed rate) = 0
-targetOf (Alinea target gain least interval) = target
-
-abbrev pub gainOf : Setting → ℕ
-gainOf Open = 0
-gainOf (Fixed rate) = 0
-gainOf (Alinea target gain least interval) = gain
-
-abbrev pub leastOf : Setting → ℕ
-leastOf Open = 0
-leastOf (Fixed rate) = 0
-leastOf (Alinea target gain least interval) = least
-
-abbrev pub intervalOf : Setting → ℕ
-intervalOf Open = 0
-intervalOf (Fixed rate) = 0
-intervalOf (Alinea target gain least interval) = interval
+-- ALINEA begins at R = Q
+abbrev pub rampFor : ℕ → Setting → Ramp
+rampFor most Open = openRamp most
+rampFor most (Fixed rate) = plainRamp fixedKind rate
+rampFor most (Alinea target gain least interval) =
+    record { kind = alineaKind; rate = most; target = target; gain = gain; least = least; interval = interval }
 
 abbrev pub meteredState : ℕ → Setting → SegmentState → SegmentState
-meteredState q setting r =
-    record {
-      count = r .count;
-      queue = r .queue;
-      limit = r .limit;
-      compliance = r .compliance;
-      kind = kindOf setting;
-      rate = rateFor q setting;
-      target = targetOf setting;
-      gain = gainOf setting;
-      least = leastOf setting;
-      interval = intervalOf setting;
-      outflow = r .outflow;
-      release = r .release;
-      speed = r .speed;
-    }
+meteredState most setting r =
+    record { count = r .count; queue = r .queue; sign = r .sign; ramp = rampFor most setting; flows = r .flows; speed = r .speed }
 
 -- ---- the case c with the state r at segment i, counted from 0; all else stays
 abbrev pub withState : Case → ℕ → SegmentState → Case

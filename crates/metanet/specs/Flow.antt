@@ -3,6 +3,7 @@ use Prim.Native.Nat.{ℕ, suc, _+_, _-_, _*_, _/_, min, max}
 use mathlib.Core.Bool.{cond}
 use lib.Dec.{leb}
 use lib.IntN.{ℤ, pos, negsuc, negℤ}
+use Rattle.metanet.specs.declared.Ramp.{Ramp}
 
 -- ---- 1. q = gain × (target × G − N) ÷ G, quotient towards zero
 abbrev pub rateChange : ℕ → ℕ → ℕ → ℕ → ℤ
@@ -19,8 +20,8 @@ abbrev pub keptIn : ℕ → ℕ → ℕ → ℕ
 keptIn least most x = max least (min x most)
 
 -- rate R becomes R + q, then kept in least..Q; least is not below 0, so what is below 0 becomes least
-unfoldable pub alineaRate : ℕ → ℕ → ℕ → ℕ → ℕ → ℕ → ℕ → ℕ
-alineaRate r gain target least most g n = keptIn least most (moved r (rateChange gain target g n))
+unfoldable pub alineaRate : Ramp → ℕ → ℕ → ℕ → ℕ
+alineaRate r most g n = keptIn (r .least) most (moved (r .rate) (rateChange (r .gain) (r .target) g n))
 
 -- ---- 2. the whole part of Q × (J × G − N) ÷ ((J − C) × G), or 0 when N ≥ J × G
 abbrev pub jamBound : ℕ → ℕ → ℕ → ℕ → ℕ → ℕ

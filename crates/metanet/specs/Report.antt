@@ -20,4 +20,6 @@ caseFigures w c =
 unfoldable pub segmentFigures : Network → Case → ℕ → List ℕ
 segmentFigures w c i =
     let r = stateOf (c .states) i in
-    r .count ∷ toUnsigned 64 (r .speed) ∷ toBits binary64 (r .speed) ∷ r .queue ∷ r .outflow ∷ r .release ∷ rateOf (segmentOf w i) r ∷ []
+    r .count ∷ toUnsigned 64 (r .speed) ∷ toBits binary64 (r .speed) ∷ r .queue
+    ∷ r .flows .outflow ∷ r .flows .release ∷ rateOf (segmentOf w i .most) (r .ramp)
+    ∷ []

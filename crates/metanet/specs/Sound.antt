@@ -11,6 +11,9 @@ use Rattle.laws.specs.Sums.{sumOf}
 use Rattle.format.specs.declared.Head.{Head}
 use Rattle.format.specs.declared.Segment.{Segment}
 use Rattle.format.specs.Words.{headIn, entryIn, segmentIn}
+use Rattle.metanet.specs.declared.SignSetting.{SignSetting}
+use Rattle.metanet.specs.declared.Ramp.{Ramp}
+use Rattle.metanet.specs.declared.Flows.{Flows}
 use Rattle.metanet.specs.declared.SegmentState.{SegmentState}
 use Rattle.metanet.specs.Case.{Case, openKind, fixedKind, alineaKind, stateOf}
 use Rattle.metanet.specs.Step.{vehiclesIn, freeSpeed, onRamp}
@@ -26,44 +29,48 @@ timeMost = 1000000000000000000
 abbrev pub stepsMost : ℕ
 stepsMost = 20000
 
--- ---- signs, settings and rates as their calls permit
+-- ---- signs, settings and rates as their calls permit; most is Q
 
 -- a dark sign keeps no compliance; a shown one has a limit of 20..200 and a compliance of −500..500, kept with 500 added
-unfoldable pub signBad : SegmentState → Bool
+unfoldable pub signBad : SignSetting → Bool
 signBad r = cond (eqb (r .limit) 0) (ltb 0 (r .compliance)) (outside 20 (r .limit) 200 || ltb 1000 (r .compliance))
 
 -- the figures of a setting that only ALINEA has
-unfoldable pub hasAlinea : SegmentState → Bool
+unfoldable pub hasAlinea : Ramp → Bool
 hasAlinea r = anyOf (ltb 0 (r .target) ∷ ltb 0 (r .gain) ∷ ltb 0 (r .least) ∷ ltb 0 (r .interval) ∷ [])
 
 -- open: R is Q, and the figures that only ALINEA has are 0
-unfoldable pub openBad : Segment → SegmentState → Bool
+unfoldable pub openBad : ℕ → Ramp → Bool
 unfolding hasAlinea
-openBad s r = hasAlinea r || not (eqb (r .rate) (s .most))
+openBad most r = hasAlinea r || not (eqb (r .rate) most)
 
 -- fixed at 0..Q, and the figures that only ALINEA has are 0
-unfoldable pub fixedBad : Segment → SegmentState → Bool
+unfoldable pub fixedBad : ℕ → Ramp → Bool
 unfolding hasAlinea
-fixedBad s r = hasAlinea r || ltb (s .most) (r .rate)
+fixedBad most r = hasAlinea r || ltb most (r .rate)
 
 -- target 1..199, gain 1..60,000 mv, least 0..Q, z 1..60 steps, R in least..Q
-unfoldable pub alineaBad : Segment → SegmentState → Bool
-alineaBad s r =
+unfoldable pub alineaBad : ℕ → Ramp → Bool
+alineaBad most r =
     anyOf
     (outside 1 (r .target) 199
     ∷ outside 1 (r .gain) 60000
-    ∷ ltb (s .most) (r .least)
+    ∷ ltb most (r .least)
     ∷ outside 1 (r .interval) 60
-    ∷ outside (r .least) (r .rate) (s .most)
+    ∷ outside (r .least) (r .rate) most
     ∷ [])
 
 -- only an origin past segment 1 is metered: m says whether segment i is one. Every code is one that the arrangement names
-unfoldable pub settingBad : Bool → Segment → SegmentState → Bool
+unfoldable pub settingBad : Bool → ℕ → Ramp → Bool
 unfolding openBad fixedBad alineaBad
-settingBad m s r =
-    cond (eqb (r .kind) openKind) (openBad s r)
-    (cond (eqb (r .kind) fixedKind) (not m || fixedBad s r)
-    (cond (eqb (r .kind) alineaKind) (not m || alineaBad s r) true))
+settingBad m most r =
+    cond (eqb (r .kind) openKind) (openBad most r)
+    (cond (eqb (r .kind) fixedKind) (not m || fixedBad most r)
+    (cond (eqb (r .kind) alineaKind) (not m || alineaBad most r) true))
+
+-- mv figures
+unfoldable pub flowsBad : Flows → Bool
+flowsBad r = ltb mvMost (r .outflow) || ltb mvMost (r .release)
 
 -- speeds in 1,000..F
 unfoldable pub speedBad : ℕ → Float → Bool
@@ -71,15 +78,14 @@ speedBad f v = not (le (real 1000) v && le v (real f))
 
 -- one segment's part of a case
 unfoldable pub stateBad : Bool → Segment → ℕ → SegmentState → Bool
-unfolding signBad settingBad speedBad
+unfolding flowsBad signBad settingBad speedBad
 stateBad m s f r =
     anyOf
     (ltb mvMost (r .count)
     ∷ ltb mvMost (r .queue)
-    ∷ ltb mvMost (r .outflow)
-    ∷ ltb mvMost (r .release)
-    ∷ signBad r
-    ∷ settingBad m s r
+    ∷ flowsBad (r .flows)
+    ∷ signBad (r .sign)
+    ∷ settingBad m (s .most) (r .ramp)
     ∷ speedBad f (r .speed)
     ∷ [])
 

@@ -11,28 +11,13 @@ use Rattle.laws.specs.Sums.{sumOf}
 use Rattle.format.specs.declared.Segment.{Segment}
 use Rattle.format.specs.Network.{Network, entryOf, segmentOf}
 use Rattle.metanet.specs.declared.SegmentState.{SegmentState}
-use Rattle.metanet.specs.Case.{Case, openKind}
+use Rattle.metanet.specs.Case.{Case, openState}
 use Rattle.metanet.specs.Speed.{area}
 
--- ---- the case: all ramps open, signs dark, flows and totals 0; R of an open segment is its Q
+-- ---- the case: all ramps open, signs dark, flows and totals 0
 
 unfoldable pub startState : Network → List ℕ → List ℕ → List ℕ → ℕ → SegmentState
-startState w mvs speeds queues i =
-    record {
-      count = getD mvs i 0;
-      queue = getD queues i 0;
-      limit = 0;
-      compliance = 0;
-      kind = openKind;
-      rate = segmentOf w i .most;
-      target = 0;
-      gain = 0;
-      least = 0;
-      interval = 0;
-      outflow = 0;
-      release = 0;
-      speed = real (getD speeds i 0);
-    }
+startState w mvs speeds queues i = openState (getD mvs i 0) (getD queues i 0) (segmentOf w i .most) (real (getD speeds i 0))
 
 unfoldable pub startCase : Network → List ℕ → List ℕ → List ℕ → Case
 unfolding startState

@@ -12,6 +12,9 @@ use Rattle.laws.specs.Real.{real, _⊘_}
 use Rattle.format.specs.declared.Head.{Head}
 use Rattle.format.specs.declared.Segment.{Segment}
 use Rattle.format.specs.Network.{Network, entryOf, segmentOf}
+use Rattle.metanet.specs.declared.SignSetting.{SignSetting}
+use Rattle.metanet.specs.declared.Ramp.{Ramp}
+use Rattle.metanet.specs.declared.Flows.{Flows}
 use Rattle.metanet.specs.declared.SegmentState.{SegmentState}
 use Rattle.metanet.specs.declared.Neighbours.{Neighbours}
 use Rattle.metanet.specs.declared.Sign.{Sign}
@@ -27,34 +30,43 @@ unfoldable pub density : Segment → SegmentState → Float
 density s r = real (r .count) ⊘ real (area s)
 
 -- its speed, carried in binary64, is limit × (1000 + a); the compliance a is kept with 500 added
-unfoldable pub signOf : SegmentState → Sign
+unfoldable pub signOf : SignSetting → Sign
 signOf r = cond (eqb (r .limit) 0) Dark (Shown (real (r .limit * (500 + r .compliance))))
 
 -- the desired speed V on a curve with the entries e, under the state's sign
 unfoldable pub desiredSpeed : (ℕ → ℕ) → Segment → SegmentState → Float
 unfolding signOf
-desiredSpeed e s r = underSign (curveSpeed e (r .count) (area s)) (signOf r)
+desiredSpeed e s r = underSign (curveSpeed e (r .count) (area s)) (signOf (r .sign))
 
 -- the rate R as reported: Q where open
-unfoldable pub rateOf : Segment → SegmentState → ℕ
-rateOf s r = cond (eqb (r .kind) openKind) (s .most) (r .rate)
+unfoldable pub rateOf : ℕ → Ramp → ℕ
+rateOf most r = cond (eqb (r .kind) openKind) most (r .rate)
 
--- 1. the rate that this step makes: ALINEA ramps whose interval divides t move theirs
-unfoldable pub rateNow : Segment → SegmentState → ℕ → ℕ
+-- 1. the rate that this step makes with n mv in the segment: ALINEA ramps whose interval divides t move theirs
+unfoldable pub rateNow : Segment → ℕ → Ramp → ℕ → ℕ
 unfolding rateOf
-rateNow s r t =
-    cond (eqb (r .kind) alineaKind && eqb (t % r .interval) 0)
-    (alineaRate (r .rate) (r .gain) (r .target) (r .least) (s .most) (area s) (r .count))
-    (rateOf s r)
+rateNow s n r t =
+    cond (eqb (r .kind) alineaKind && eqb (t % r .interval) 0) (alineaRate r (s .most) (area s) n) (rateOf (s .most) r)
+
+-- the ramp after the step: its setting stays
+unfoldable pub rampNow : Segment → ℕ → Ramp → ℕ → Ramp
+unfolding rateNow
+rampNow s n r t =
+    record { kind = r .kind; rate = rateNow s n r t; target = r .target; gain = r .gain; least = r .least; interval = r .interval }
 
 -- 2. release = least of w + d; R; the jam bound
 unfoldable pub releaseNow : Segment → SegmentState → ℕ → ℕ → ℕ
 unfolding rateNow
-releaseNow s r t d = releaseOf (r .queue + d) (rateNow s r t) (jamBound (s .most) (s .jam) (s .critical) (area s) (r .count))
+releaseNow s r t d = releaseOf (r .queue + d) (rateNow s (r .count) (r .ramp) t) (jamBound (s .most) (s .jam) (s .critical) (area s) (r .count))
 
 -- 3. the outflow; s is the whole part of v
 unfoldable pub outflowNow : Head → Segment → SegmentState → ℕ
 outflowNow h s r = outflowOf (r .count) (toUnsigned 64 (r .speed)) (h .step) (s .metres)
+
+-- the flows that this step makes
+unfoldable pub flowsNow : Head → Segment → SegmentState → ℕ → ℕ → Flows
+unfolding releaseNow outflowNow
+flowsNow h s r t d = record { outflow = outflowNow h s r; release = releaseNow s r t d }
 
 -- all the rest enters the next segment, or leaves after segment n
 unfoldable pub through : Head → Segment → SegmentState → ℕ
@@ -63,23 +75,16 @@ through h s r = outflowNow h s r - exitPart (outflowNow h s r) (s .exit)
 
 -- the new state, from what is around the segment
 unfoldable pub newState : Head → Segment → ℕ → SegmentState → ℕ → ℕ → Bool → Neighbours → SegmentState
-unfolding density rateNow releaseNow outflowNow
+unfolding density rampNow flowsNow
 newState h s f r t d onRamp o =
     record {
       -- 4. N + release + what the segment before passes on − outflow
       count = r .count + releaseNow s r t d + o .passed - outflowNow h s r;
       -- w + d − release
       queue = r .queue + d - releaseNow s r t d;
-      limit = r .limit;
-      compliance = r .compliance;
-      kind = r .kind;
-      rate = rateNow s r t;
-      target = r .target;
-      gain = r .gain;
-      least = r .least;
-      interval = r .interval;
-      outflow = outflowNow h s r;
-      release = releaseNow s r t d;
+      sign = r .sign;
+      ramp = rampNow s (r .count) (r .ramp) t;
+      flows = flowsNow h s r t d;
       speed =
           newSpeed h s f
           (record { count = r .count; queue = r .queue; speed = r .speed; density = density s r; before = o .before; after = o .after })

@@ -2,39 +2,75 @@
 -- A case's states of 16 words start at place at, its 8 words of totals follow; its speeds start at place from.
 use Prim.Native.Nat.{ℕ, _+_, _*_}
 use mathlib.Core.List.{List, [], _∷_, _++_}
-use lib.ListN.{getD, take, drop, set}
+use lib.IntN.{ℤ}
+use lib.ListN.{getD, take, drop, set, replicate}
 use lib.Ieee.{Float, nan}
 use Rattle.laws.specs.Lists.{table, part, parts, puts}
 use Rattle.laws.specs.Sums.{sumOf}
 use Rattle.format.specs.Words.{headIn, entryIn, segmentIn}
+use Rattle.metanet.specs.declared.SignSetting.{SignSetting}
+use Rattle.metanet.specs.declared.Ramp.{Ramp}
+use Rattle.metanet.specs.declared.Flows.{Flows}
 use Rattle.metanet.specs.declared.SegmentState.{SegmentState}
+use Rattle.metanet.specs.declared.Setting.{Setting}
 use Rattle.metanet.specs.Case.{Case, stateOf}
+use Rattle.metanet.specs.Change.{signFor, rampFor}
 use Rattle.metanet.specs.Step.{vehiclesIn, stepState, exitsNow}
 
 -- the words of the network
 abbrev pub netOf : List ℕ → List ℕ
 netOf words = take 2560 words
 
--- ---- what is read
+-- ---- a state in 16 words: N, w, limit, compliance + 500, kind, R, target, gain, least, z, last outflow, last release; 4 are free
 
--- a state, at the start of the words w: N, w, limit, compliance + 500, kind, R, target, gain, least, z, last outflow, last release; 4 are free
+-- its parts, read
+unfoldable pub signIn : List ℕ → SignSetting
+signIn w = record { limit = getD w 2 0; compliance = getD w 3 0 }
+
+unfoldable pub rampIn : List ℕ → Ramp
+rampIn w =
+    record { kind = getD w 4 0; rate = getD w 5 0; target = getD w 6 0; gain = getD w 7 0; least = getD w 8 0; interval = getD w 9 0 }
+
+unfoldable pub flowsIn : List ℕ → Flows
+flowsIn w = record { outflow = getD w 10 0; release = getD w 11 0 }
+
 unfoldable pub stateIn : List ℕ → Float → SegmentState
-stateIn w v =
-    record {
-      count = getD w 0 0;
-      queue = getD w 1 0;
-      limit = getD w 2 0;
-      compliance = getD w 3 0;
-      kind = getD w 4 0;
-      rate = getD w 5 0;
-      target = getD w 6 0;
-      gain = getD w 7 0;
-      least = getD w 8 0;
-      interval = getD w 9 0;
-      outflow = getD w 10 0;
-      release = getD w 11 0;
-      speed = v;
-    }
+unfolding signIn rampIn flowsIn
+stateIn w v = record { count = getD w 0 0; queue = getD w 1 0; sign = signIn w; ramp = rampIn w; flows = flowsIn w; speed = v }
+
+-- its parts, put into the words w; a step puts R alone of the ramp
+unfoldable pub putSign : SignSetting → List ℕ → List ℕ
+putSign r w = set (set w 2 (r .limit)) 3 (r .compliance)
+
+unfoldable pub putRamp : Ramp → List ℕ → List ℕ
+putRamp r w =
+    set (set (set (set (set (set w 4 (r .kind)) 5 (r .rate)) 6 (r .target)) 7 (r .gain)) 8 (r .least)) 9 (r .interval)
+
+unfoldable pub putRate : Ramp → List ℕ → List ℕ
+putRate r w = set w 5 (r .rate)
+
+unfoldable pub putFlows : Flows → List ℕ → List ℕ
+putFlows r w = set (set w 10 (r .outflow)) 11 (r .release)
+
+-- the words of a state, the free ones 0
+unfoldable pub stateWords : SegmentState → List ℕ
+unfolding putSign putRamp putFlows
+stateWords r = putFlows (r .flows) (putRamp (r .ramp) (putSign (r .sign) (r .count ∷ r .queue ∷ replicate 14 0)))
+
+-- what Sign, Meter and a step write in the words w of a state; most is the segment's Q, r the state after the step
+unfoldable pub signedWords : ℕ → ℤ → List ℕ → List ℕ
+unfolding putSign
+signedWords limit compliance w = putSign (signFor limit compliance) w
+
+unfoldable pub meteredWords : ℕ → Setting → List ℕ → List ℕ
+unfolding putRamp
+meteredWords most setting w = putRamp (rampFor most setting) w
+
+unfoldable pub steppedWords : List ℕ → SegmentState → List ℕ
+unfolding putRate putFlows
+steppedWords w r = putFlows (r .flows) (putRate (r .ramp) (set (set w 0 (r .count)) 1 (r .queue)))
+
+-- ---- a case, read
 
 abbrev pub stateAt : List ℕ → List Float → ℕ → ℕ → ℕ → SegmentState
 stateAt words speeds at from i = stateIn (drop (at + 16 * i) words) (getD speeds (from + i) nan)
@@ -57,11 +93,6 @@ caseIn words speeds at from n =
 
 -- ---- the words and speeds of a case of n segments; the free words are 0
 
-unfoldable pub stateWords : SegmentState → List ℕ
-stateWords r =
-    r .count ∷ r .queue ∷ r .limit ∷ r .compliance ∷ r .kind ∷ r .rate ∷ r .target ∷ r .gain ∷ r .least ∷ r .interval
-    ∷ r .outflow ∷ r .release ∷ 0 ∷ 0 ∷ 0 ∷ 0 ∷ []
-
 unfoldable pub caseWords : ℕ → Case → List ℕ
 unfolding stateWords parts
 caseWords n c =
@@ -71,10 +102,7 @@ unfoldable pub caseSpeeds : ℕ → Case → List Float
 unfolding table
 caseSpeeds n c = table (λ i. stateOf (c .states) i .speed) n
 
--- ---- what a step writes: of a state the figures that a step makes, and its speed
-
-unfoldable pub steppedWords : List ℕ → SegmentState → List ℕ
-steppedWords w r = set (set (set (set (set w 0 (r .count)) 1 (r .queue)) 5 (r .rate)) 10 (r .outflow)) 11 (r .release)
+-- ---- what a step writes: of each state what it makes anew, and its speed
 
 abbrev pub stepStateIn : List ℕ → List Float → ℕ → ℕ → ℕ → ℕ → List ℕ → ℕ → SegmentState
 stepStateIn words speeds at from n t ds i =

@@ -1,20 +1,34 @@
 // A case and one METANET step with ALINEA ramps: their types. specs/ says what they mean, proofs/ has the theorems; there is no code here.
-// A segment's part of a case: N and queue w in mv; the sign's limit in km/h, 0 where it is dark, and compliance in thousandths with
-// 500 added, 0 where it is dark; the setting's kind (0 open, 1 fixed, 2 ALINEA), rate R in mv a step, target in veh/km/lane, gain
-// and least in mv, interval z in steps; last outflow, exit part included, and last release in mv; speed v in m/h.
-pub struct SegmentState {
-    pub count: u64,
-    pub queue: u64,
+// What a sign is set to: the limit in km/h, 0 where it is dark; compliance in thousandths with 500 added, 0 where it is dark.
+pub struct SignSetting {
     pub limit: u64,
     pub compliance: u64,
+}
+
+// A ramp: the kind of its setting (0 open, 1 fixed, 2 ALINEA) and its rate R in mv a step; of ALINEA the target in veh/km/lane, gain
+// and least in mv, interval z in steps, each 0 where the setting is another.
+pub struct Ramp {
     pub kind: u64,
     pub rate: u64,
     pub target: u64,
     pub gain: u64,
     pub least: u64,
     pub interval: u64,
+}
+
+// What the last step let out of a segment, exit part included, and what it released from the queue, in mv.
+pub struct Flows {
     pub outflow: u64,
     pub release: u64,
+}
+
+// A segment's part of a case: N and queue w in mv, sign, ramp, flows of the last step, speed v in m/h.
+pub struct SegmentState {
+    pub count: u64,
+    pub queue: u64,
+    pub sign: SignSetting,
+    pub ramp: Ramp,
+    pub flows: Flows,
     pub speed: f64,
 }
 

@@ -1,7 +1,9 @@
 // Rates, releases and flows of one segment, in mv.
+use metanet::Ramp;
 ghost use mathlib.Core.Path.{_≡_};
 ghost use Prim.Native.Nat.{_<_, _≤_, min, max};
 ghost use Rattle.metanet.specs.Flow.{jamBound, alineaRate, releaseOf, outflowOf, exitPart};
+ghost use Rattle.metanet.proofs.Ready.{RampOk};
 
 // The most that a segment with n mv lets in from its origin: 0 from the jam density on.
 pub(crate) fn jam_bound(most: u64, jam: u64, critical: u64, g: u64, n: u64) -> u64
@@ -30,21 +32,21 @@ fn bounded(least: u64, most: u64, x: u64) -> u64
 }
 
 // ALINEA's new rate on an area g with n mv; the quotient goes towards zero on either side of the target.
-pub(crate) fn alinea(r: u64, gain: u64, target: u64, least: u64, most: u64, g: u64, n: u64) -> u64
-    requires { ⌜ (r ≤ 300000) × (gain ≤ 60000) × (target ≤ 199) × (least ≤ most) × (most ≤ 300000) ⌝ }
-    requires { ⌜ (0 < g) × (g ≤ 16000) × (n ≤ 1000000000000) ⌝ }
-    ensures { λ x. ⌜ x ≡ alineaRate r gain target least most g n ⌝ }
+pub(crate) fn alinea(r: Ramp, most: u64, g: u64, n: u64) -> u64
+    requires { ⌜ RampOk most r ⌝ }
+    requires { ⌜ (most ≤ 300000) × (0 < g) × (g ≤ 16000) × (n ≤ 1000000000000) ⌝ }
+    ensures { λ x. ⌜ x ≡ alineaRate r most g n ⌝ }
 {
-    let wanted = target * g;
+    let wanted = r.target * g;
     if n <= wanted {
-        let up = gain * (wanted - n) / g;
-        return bounded(least, most, r + up);
+        let up = r.gain * (wanted - n) / g;
+        return bounded(r.least, most, r.rate + up);
     }
-    let down = gain * (n - wanted) / g;
-    if down < r {
-        return bounded(least, most, r - down);
+    let down = r.gain * (n - wanted) / g;
+    if down < r.rate {
+        return bounded(r.least, most, r.rate - down);
     }
-    bounded(least, most, 0)
+    bounded(r.least, most, 0)
 }
 
 // The least of three.

@@ -3,10 +3,13 @@ use crate::flow;
 use crate::speed;
 use format::Head;
 use format::Segment;
+use metanet::Flows;
 use metanet::Neighbours;
 use metanet::Old;
+use metanet::Ramp;
 use metanet::SegmentState;
 use metanet::Sign;
+use metanet::SignSetting;
 ghost use mathlib.Core.Path.{_≡_};
 ghost use mathlib.Core.Bool.{_&&_};
 ghost use Prim.Native.Nat.{_+_, _-_, _*_, _<_, _≤_};
@@ -17,12 +20,12 @@ ghost use Rattle.format.proofs.Accepted.{HeadWithin, CurveWithin};
 ghost use Rattle.format.specs.Words.{entryIn, segmentIn};
 ghost use Rattle.metanet.specs.Flow.{exitPart};
 ghost use Rattle.metanet.specs.Speed.{area};
-ghost use Rattle.metanet.specs.Step.{signOf, desiredSpeed, rateNow, outflowNow, newState};
-ghost use Rattle.metanet.specs.Words.{netOf, stateIn};
-ghost use Rattle.metanet.proofs.Ready.{AreaOk, SegmentOk, StateOk, NewStateOk, afterIn, newStateIn};
+ghost use Rattle.metanet.specs.Step.{signOf, desiredSpeed, rateNow, rampNow, outflowNow, newState};
+ghost use Rattle.metanet.specs.Words.{netOf, signIn, rampIn, flowsIn, stateIn};
+ghost use Rattle.metanet.proofs.Ready.{AreaOk, SegmentOk, SignOk, RampOk, StateOk, NewStateOk, afterIn, newStateIn};
 
-fn sign_of(r: SegmentState) -> Sign
-    requires { ⌜ (r .limit ≤ 200) × (r .compliance ≤ 1000) ⌝ }
+fn sign_of(r: SignSetting) -> Sign
+    requires { ⌜ SignOk r ⌝ }
     ensures { λ x. ⌜ x ≡ signOf r ⌝ }
 {
     if r.limit == 0 {
@@ -46,14 +49,15 @@ fn density_of(g: u64, count: u64) -> f64
     speed::whole(count) / speed::whole(g)
 }
 
-fn rate_of(s: Segment, r: SegmentState, f: u64, g: u64, t: u64) -> u64
-    requires { ⌜ (g ≡ area s) × (0 < g) × (g ≤ 16000) × (s .most ≤ 300000) ⌝ }
-    requires { ⌜ StateOk s f r ⌝ }
-    ensures { λ x. ⌜ x ≡ rateNow s r t ⌝ }
+// The rate that a step makes on an area g with n mv; t is the number of steps so far.
+fn rate_of(s: Segment, n: u64, r: Ramp, g: u64, t: u64) -> u64
+    requires { ⌜ (g ≡ area s) × (0 < g) × (g ≤ 16000) × (s .most ≤ 300000) × (n ≤ 1000000000000) ⌝ }
+    requires { ⌜ RampOk (s .most) r ⌝ }
+    ensures { λ x. ⌜ x ≡ rateNow s n r t ⌝ }
 {
     if r.kind == 2 {
         if t % r.interval == 0 {
-            return flow::alinea(r.rate, r.gain, r.target, r.least, s.most, g, r.count);
+            return flow::alinea(r, s.most, g, n);
         }
         return r.rate;
     }
@@ -61,6 +65,22 @@ fn rate_of(s: Segment, r: SegmentState, f: u64, g: u64, t: u64) -> u64
         return s.most;
     }
     r.rate
+}
+
+// The ramp with that rate.
+fn new_ramp(s: Segment, n: u64, r: Ramp, g: u64, t: u64) -> Ramp
+    requires { ⌜ (g ≡ area s) × (0 < g) × (g ≤ 16000) × (s .most ≤ 300000) × (n ≤ 1000000000000) ⌝ }
+    requires { ⌜ RampOk (s .most) r ⌝ }
+    ensures { λ x. ⌜ x ≡ rampNow s n r t ⌝ }
+{
+    Ramp {
+        kind: r.kind,
+        rate: rate_of(s, n, r, g, t),
+        target: r.target,
+        gain: r.gain,
+        least: r.least,
+        interval: r.interval,
+    }
 }
 
 fn outflow_of(h: Head, s: Segment, f: u64, r: SegmentState) -> u64
@@ -85,21 +105,23 @@ fn new_state(
     r: SegmentState,
     t: u64,
     d: u64,
-    ramp: bool,
+    onramp: bool,
     o: Neighbours,
 ) -> SegmentState
     requires { ⌜ HeadWithin h ⌝ }
     requires { ⌜ SegmentOk h s f ⌝ }
     requires { ⌜ StateOk s f r ⌝ }
     requires { ⌜ (d ≤ 1000000) × (o .passed ≤ 1000000000000) ⌝ }
-    ensures { λ x. ⌜ x ≡ newState h s f r t d ramp o ⌝ }
+    ensures { λ x. ⌜ x ≡ newState h s f r t d onramp o ⌝ }
 {
     let g = area_of(s);
-    let rate = rate_of(s, r, f, g, t);
+    let sign = r.sign;
+    let before = r.ramp;
+    let ramp = new_ramp(s, r.count, before, g, t);
     let waiting = r.queue + d;
     let bound = flow::jam_bound(s.most, s.jam, s.critical, g, r.count);
-    let release = flow::release_of(waiting, rate, bound);
-    let out = outflow_of(h, s, f, r);
+    let release = flow::release_of(waiting, ramp.rate, bound);
+    let outflow = outflow_of(h, s, f, r);
     let old = Old {
         count: r.count,
         queue: r.queue,
@@ -108,20 +130,13 @@ fn new_state(
         before: o.before,
         after: o.after,
     };
-    let v = speed::new_speed(h, s, f, old, o.want, ramp, release);
+    let v = speed::new_speed(h, s, f, old, o.want, onramp, release);
     SegmentState {
-        count: r.count + release + o.passed - out,
+        count: r.count + release + o.passed - outflow,
         queue: waiting - release,
-        limit: r.limit,
-        compliance: r.compliance,
-        kind: r.kind,
-        rate,
-        target: r.target,
-        gain: r.gain,
-        least: r.least,
-        interval: r.interval,
-        outflow: out,
-        release,
+        sign,
+        ramp,
+        flows: Flows { outflow, release },
         speed: v,
     }
 }
@@ -153,7 +168,8 @@ fn want_of(net: &[u64], s: Segment, f: u64, r: SegmentState, g: u64) -> f64
     ensures { λ x. ⌜ x ≡ desiredSpeed (entryIn (now (net .entry)) (s .curve)) s r ⌝ }
 {
     let v = speed::curve_speed(net, s.curve, r.count, g);
-    speed::desired(v, sign_of(r))
+    let sign = r.sign;
+    speed::desired(v, sign_of(sign))
 }
 
 // Whether segment i, counted from 0, is an origin past segment 1: a release merges there, and it may be metered.
@@ -166,6 +182,43 @@ pub(crate) fn is_on_ramp(origin: u64, i: usize) -> bool
     false
 }
 
+// The sign of the state at the start of these words.
+fn sign_in(w: &[u64]) -> SignSetting
+    requires { ⌜ 16 ≤ length (now w) ⌝ }
+    ensures { λ r. ⌜ r ≡ signIn (now (w .entry)) ⌝ }
+{
+    SignSetting {
+        limit: w[2],
+        compliance: w[3],
+    }
+}
+
+// Its ramp.
+fn ramp_in(w: &[u64]) -> Ramp
+    requires { ⌜ 16 ≤ length (now w) ⌝ }
+    ensures { λ r. ⌜ r ≡ rampIn (now (w .entry)) ⌝ }
+{
+    Ramp {
+        kind: w[4],
+        rate: w[5],
+        target: w[6],
+        gain: w[7],
+        least: w[8],
+        interval: w[9],
+    }
+}
+
+// Its flows.
+fn flows_in(w: &[u64]) -> Flows
+    requires { ⌜ 16 ≤ length (now w) ⌝ }
+    ensures { λ r. ⌜ r ≡ flowsIn (now (w .entry)) ⌝ }
+{
+    Flows {
+        outflow: w[10],
+        release: w[11],
+    }
+}
+
 // The state at the start of these words.
 pub(crate) fn state_of(w: &[u64], v: f64) -> SegmentState
     requires { ⌜ 16 ≤ length (now w) ⌝ }
@@ -174,16 +227,9 @@ pub(crate) fn state_of(w: &[u64], v: f64) -> SegmentState
     SegmentState {
         count: w[0],
         queue: w[1],
-        limit: w[2],
-        compliance: w[3],
-        kind: w[4],
-        rate: w[5],
-        target: w[6],
-        gain: w[7],
-        least: w[8],
-        interval: w[9],
-        outflow: w[10],
-        release: w[11],
+        sign: sign_in(w),
+        ramp: ramp_in(w),
+        flows: flows_in(w),
         speed: v,
     }
 }
@@ -213,14 +259,14 @@ pub(crate) fn new_state_in(
     let g = area_of(s);
     let after = after_of(net, rest, i, n, s, r.count, g);
     let want = want_of(net, s, f, r, g);
-    let ramp = is_on_ramp(s.origin, i);
+    let onramp = is_on_ramp(s.origin, i);
     let o = Neighbours {
         passed,
         before,
         after,
         want,
     };
-    new_state(h, s, f, r, t, d, ramp, o)
+    new_state(h, s, f, r, t, d, onramp, o)
 }
 
 // What segment i passes on of an outflow.

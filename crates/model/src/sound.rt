@@ -3,14 +3,17 @@ use crate::segment;
 use crate::speed;
 use crate::totals;
 use format::Segment;
+use metanet::Flows;
+use metanet::Ramp;
 use metanet::SegmentState;
+use metanet::SignSetting;
 ghost use mathlib.Core.Path.{_≡_};
 ghost use Prim.Native.Nat.{_<_, _≤_};
 ghost use Rattle.laws.specs.First.{firstOf};
 ghost use Rattle.metanet.proofs.Ready.{CaseAt};
-ghost use Rattle.metanet.specs.Sound.{signBad, hasAlinea, openBad, fixedBad, alineaBad, settingBad, speedBad, stateBad, totalsBad, stateNumberIn, caseNumberIn};
+ghost use Rattle.metanet.specs.Sound.{signBad, hasAlinea, openBad, fixedBad, alineaBad, settingBad, flowsBad, speedBad, stateBad, totalsBad, stateNumberIn, caseNumberIn};
 
-fn sign_bad(r: SegmentState) -> bool
+fn sign_bad(r: SignSetting) -> bool
     ensures { λ x. ⌜ x ≡ signBad r ⌝ }
 {
     if r.limit == 0 {
@@ -20,48 +23,54 @@ fn sign_bad(r: SegmentState) -> bool
 }
 
 // Whether any figure that only ALINEA has is there.
-fn has_alinea(r: SegmentState) -> bool
+fn has_alinea(r: Ramp) -> bool
     ensures { λ x. ⌜ x ≡ hasAlinea r ⌝ }
 {
     (0 < r.target) | (0 < r.gain) | (0 < r.least) | (0 < r.interval)
 }
 
-fn open_bad(s: Segment, r: SegmentState) -> bool
-    ensures { λ x. ⌜ x ≡ openBad s r ⌝ }
+fn open_bad(most: u64, r: Ramp) -> bool
+    ensures { λ x. ⌜ x ≡ openBad most r ⌝ }
 {
-    has_alinea(r) | (r.rate != s.most)
+    has_alinea(r) | (r.rate != most)
 }
 
-fn fixed_bad(s: Segment, r: SegmentState) -> bool
-    ensures { λ x. ⌜ x ≡ fixedBad s r ⌝ }
+fn fixed_bad(most: u64, r: Ramp) -> bool
+    ensures { λ x. ⌜ x ≡ fixedBad most r ⌝ }
 {
-    has_alinea(r) | (s.most < r.rate)
+    has_alinea(r) | (most < r.rate)
 }
 
-fn alinea_bad(s: Segment, r: SegmentState) -> bool
-    ensures { λ x. ⌜ x ≡ alineaBad s r ⌝ }
+fn alinea_bad(most: u64, r: Ramp) -> bool
+    ensures { λ x. ⌜ x ≡ alineaBad most r ⌝ }
 {
     arrays::outside(1, r.target, 199)
         | arrays::outside(1, r.gain, 60000)
-        | (s.most < r.least)
+        | (most < r.least)
         | arrays::outside(1, r.interval, 60)
-        | arrays::outside(r.least, r.rate, s.most)
+        | arrays::outside(r.least, r.rate, most)
 }
 
-// m says whether the segment may be metered.
-fn setting_bad(m: bool, s: Segment, r: SegmentState) -> bool
-    ensures { λ x. ⌜ x ≡ settingBad m s r ⌝ }
+// m says whether the segment may be metered; most is its Q.
+fn setting_bad(m: bool, most: u64, r: Ramp) -> bool
+    ensures { λ x. ⌜ x ≡ settingBad m most r ⌝ }
 {
     if r.kind == 0 {
-        return open_bad(s, r);
+        return open_bad(most, r);
     }
     if r.kind == 1 {
-        return !m | fixed_bad(s, r);
+        return !m | fixed_bad(most, r);
     }
     if r.kind == 2 {
-        return !m | alinea_bad(s, r);
+        return !m | alinea_bad(most, r);
     }
     true
+}
+
+fn flows_bad(r: Flows) -> bool
+    ensures { λ x. ⌜ x ≡ flowsBad r ⌝ }
+{
+    (1000000000000 < r.outflow) | (1000000000000 < r.release)
 }
 
 // NaN is in no range.
@@ -77,12 +86,14 @@ fn state_bad(m: bool, s: Segment, f: u64, r: SegmentState) -> bool
     requires { ⌜ f ≤ 200000 ⌝ }
     ensures { λ x. ⌜ x ≡ stateBad m s f r ⌝ }
 {
+    let sign = r.sign;
+    let ramp = r.ramp;
+    let flows = r.flows;
     (1000000000000 < r.count)
         | (1000000000000 < r.queue)
-        | (1000000000000 < r.outflow)
-        | (1000000000000 < r.release)
-        | sign_bad(r)
-        | setting_bad(m, s, r)
+        | flows_bad(flows)
+        | sign_bad(sign)
+        | setting_bad(m, s.most, ramp)
         | speed_bad(f, r.speed)
 }
 

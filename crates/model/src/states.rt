@@ -11,11 +11,13 @@ fn store(w: &mut [u64], r: SegmentState)
     requires { ⌜ length (now w) ≡ 16 ⌝ }
     ensures { λ _. ⌜ now (w .exit) ≡ steppedWords (now (w .entry)) r ⌝ }
 {
+    let ramp = r.ramp;
+    let flows = r.flows;
     w[0] = r.count;
     w[1] = r.queue;
-    w[5] = r.rate;
-    w[10] = r.outflow;
-    w[11] = r.release;
+    w[5] = ramp.rate;
+    w[10] = flows.outflow;
+    w[11] = flows.release;
 }
 
 // One step of the states that start at word at and of the speeds that start at from; gives what leaves.
@@ -42,8 +44,9 @@ pub(crate) fn step_states(
         let v = speeds[b];
         let d = arrivals[i] as u64;
         let r = segment::new_state_in(words, a, v, d, i, n, t, passed, before);
-        passed = segment::pass_on(words, i, r.outflow);
-        left = left + (r.outflow - passed);
+        let flows = r.flows;
+        passed = segment::pass_on(words, i, flows.outflow);
+        left = left + (flows.outflow - passed);
         store(&mut words[a..e], r);
         speeds[b] = r.speed;
         before = v;

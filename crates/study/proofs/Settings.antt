@@ -1,4 +1,4 @@
--- Sign and Meter: a compliance with 500 added, the rows of the table after 12, and where segment i's row stands.
+-- Sign and Meter: a compliance with 500 added, the rows of the table after 12, and where segment i's state stands.
 use Prim.Native.Nat.{ℕ, zero, suc, _+_, _-_, _≤_}
 use mathlib.Core.Path.{_≡_, refl, sym, ap, _∙_}
 use mathlib.Core.Bool.{Bool, true, false, cond, not, _&&_, _||_}
@@ -19,7 +19,7 @@ use Rattle.metanet.specs.declared.Setting.{Setting}
 use Rattle.book.specs.Arrangement.{networkAt, sizeAt}
 use Rattle.book.specs.Sound.{sound}
 use Rattle.book.specs.Calls.{sign, meter}
-use Rattle.metanet.specs.Change.{complianceBad, complianceWord, keptCompliance, signRefused, settingRefused}
+use Rattle.metanet.specs.Change.{complianceBad, complianceWord, signFor, signRefused, settingRefused}
 use Rattle.book.specs.Refusal.{refusal}
 use Rattle.book.specs.Perform.{refusalAt, stateWord, lent}
 use Rattle.book.proofs.Judging.{size-high}
@@ -47,9 +47,9 @@ compliance-word-high (pos a) e = omega (arith, ltb-false 500 a e)
 compliance-word-high (negsuc a) e = omega arith
 
 -- a sign that is not dark
-pub shown-compliance : (limit : ℕ) (z : ℤ) → (limit ≡ 0 → ⊥) → keptCompliance limit z ≡ complianceWord z
-shown-compliance zero z some = absurd (some refl)
-shown-compliance (suc limit) z some = refl
+pub shown-sign : (limit : ℕ) (z : ℤ) → (limit ≡ 0 → ⊥) → signFor limit z ≡ record { limit = limit; compliance = complianceWord z }
+shown-sign zero z some = absurd (some refl)
+shown-sign (suc limit) z some = refl
 
 -- ---- segment i's state in the live case, i from 1
 

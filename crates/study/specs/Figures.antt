@@ -43,9 +43,9 @@ stateFigures s r =
       whole = toUnsigned 64 (r .speed);
       bits = toBits binary64 (r .speed);
       queue = r .queue;
-      outflow = r .outflow;
-      release = r .release;
-      rate = rateOf s r;
+      outflow = r .flows .outflow;
+      release = r .flows .release;
+      rate = rateOf (s .most) (r .ramp);
     }
 
 -- ---- what reading them rests on

@@ -3,9 +3,12 @@ use Prim.Native.Nat.{ℕ, _+_, _*_}
 use mathlib.Core.Path.{_≡_}
 use mathlib.Core.List.{List, [], _∷_, _++_}
 use lib.ListN.{length, getD, drop, replicate}
+use lib.Ieee.{nan}
 use Rattle.laws.specs.Lists.{parts}
 use Rattle.format.specs.File.{headOf, segmentOn, entryOn, networkOf, fileNumber}
 use Rattle.format.specs.Words.{keptWords}
+use Rattle.metanet.specs.Case.{openState}
+use Rattle.metanet.specs.Words.{stateWords}
 use Rattle.metanet.specs.Start.{startSegmentNumber}
 
 -- 14, of segment i, as the file's bytes say it
@@ -24,7 +27,8 @@ pub record Listed (b mvs speeds queues : List ℕ) : Type 0 where
 
 -- the 16 words of a state with a dark sign and an open ramp, flows 0
 unfoldable pub openWords : ℕ → ℕ → ℕ → List ℕ
-openWords mv queue most = mv ∷ queue ∷ 0 ∷ 0 ∷ 0 ∷ most ∷ 0 ∷ 0 ∷ 0 ∷ 0 ∷ 0 ∷ 0 ∷ 0 ∷ 0 ∷ 0 ∷ 0 ∷ []
+unfolding stateWords
+openWords mv queue most = stateWords (openState mv queue most nan)
 
 abbrev pub openWordsOn : List ℕ → List ℕ → List ℕ → ℕ → List ℕ
 openWordsOn b mvs queues i = openWords (getD mvs i 0) (getD queues i 0) (segmentOn b i .most)

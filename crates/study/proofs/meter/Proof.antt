@@ -7,7 +7,8 @@ use Rattle.laws.proofs.Puts.{part-changed}
 use Rattle.format.specs.Network.{segmentOf}
 use Rattle.book.specs.Arrangement.{networkAt}
 use Rattle.book.specs.Calls.{meter}
-use Rattle.book.specs.Perform.{refusalAt, stateWord, meteredWords, storedWords, storedSpeeds, answerOf, lent}
+use Rattle.book.specs.Perform.{refusalAt, stateWord, storedWords, storedSpeeds, answerOf, lent}
+use Rattle.metanet.specs.Words.{meteredWords}
 use Rattle.book.proofs.Performing.{refuses, accepts}
 use Rattle.study.proofs.Settings.{StateWithin, meter-within}
 use Rattle.study.proofs.meter.Statement.{statement}

@@ -8,7 +8,8 @@ use Rattle.laws.proofs.Lists.{span, length-part}
 use Rattle.laws.proofs.Puts.{part-changed}
 use Rattle.book.specs.Calls.{sign}
 use Rattle.metanet.specs.Change.{complianceBad}
-use Rattle.book.specs.Perform.{refusalAt, stateWord, signedWords, storedWords, storedSpeeds, answerOf, lent}
+use Rattle.book.specs.Perform.{refusalAt, stateWord, storedWords, storedSpeeds, answerOf, lent}
+use Rattle.metanet.specs.Words.{signedWords}
 use Rattle.book.proofs.Performing.{refuses, accepts}
 use Rattle.study.proofs.Settings.{StateWithin, sign-within, sign-compliance}
 use Rattle.study.proofs.sign.Statement.{statement}

@@ -1,4 +1,3 @@
-use mathlib.Core.Path.{refl}
 use borrow.Author.Needs.{needs}
 use Rattle.metanet.specs.Words.{stateIn}
 use Rattle.model.proofs.segment.state_of.Statement.{statement}
@@ -6,12 +5,10 @@ use Rattle.model.proofs.segment.state_of.Tie as tie
 
 returns : tie.Need-returns
 unfolding stateIn
-returns c = refl
+returns c = simp (c .flows-in .ensures, c .before .ramp-in .ensures, c .before .before .sign-in .ensures)
 
 pub state-of-spec : {M : Type 1} → statement M
 state-of-spec =
     tie.close
     (tie.spec
-    (λ c. search needs) (λ c. search needs) (λ c. search needs) (λ c. search needs) (λ c. search needs)
-    (λ c. search needs) (λ c. search needs) (λ c. search needs) (λ c. search needs) (λ c. search needs)
-    (λ c. search needs) (λ c. search needs) returns)
+    (λ c. search needs) (λ c. search needs) (λ c κs. search needs) (λ c κs. search needs) (λ c κs. search needs) returns)

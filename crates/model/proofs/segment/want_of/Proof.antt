@@ -6,7 +6,7 @@ use Rattle.model.proofs.segment.want_of.Tie as tie
 returns : tie.Need-returns
 unfolding desiredSpeed
 returns c =
-    let v = c .before .before in
+    let v = c .before .before .before in
     simp (c .desired .ensures, c .before .sign-of .ensures, v .curve-speed .ensures, ← v .before .before .pre .0 .0)
 
 pub want-of-spec : {M : Type 1} → statement M

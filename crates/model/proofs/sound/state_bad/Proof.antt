@@ -6,7 +6,7 @@ use Rattle.model.proofs.sound.state_bad.Tie as tie
 
 returns : tie.Need-returns
 unfolding stateBad anyOf
-returns c = simp (c .speed-bad .ensures, c .before .setting-bad .ensures, c .before .before .sign-bad .ensures)
+returns c = simp (c .speed-bad .ensures, c .before .setting-bad .ensures, c .before .before .sign-bad .ensures, c .before .before .before .flows-bad .ensures)
 
 pub state-bad-spec : {M : Type 1} → statement M
-state-bad-spec = tie.close (tie.spec (λ c κs. search needs) (λ c κs. search needs) (λ c κs. search needs) returns)
+state-bad-spec = tie.close (tie.spec (λ c κs. search needs) (λ c κs. search needs) (λ c κs. search needs) (λ c κs. search needs) returns)

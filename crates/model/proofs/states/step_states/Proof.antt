@@ -27,7 +27,7 @@ abbrev start : tie.At-loop Inv-loop μ-loop → tie.Start Inv-loop μ-loop
 start l = l .before .before .before .before .before
 
 abbrev passed-on : tie.After-struct-known Inv-loop μ-loop → tie.In-loop Inv-loop μ-loop
-passed-on c = c .before .before .before .before .before .before .before
+passed-on c = c .before .before .before .before .before .before .before .before
 
 abbrev stored : tie.After-slice-known5 Inv-loop μ-loop → tie.In-loop Inv-loop μ-loop
 stored c = passed-on (c .before .before .before .before)
@@ -42,7 +42,7 @@ long l = lengths (start l .pre) (l .loop .inv .0)
 -- what `pass_on` asks of the state that `new_state_in` gives
 passes : (c : tie.After-new-state-in Inv-loop μ-loop)
     → let l = c .before .before .before .before .before .loop in
-    ((2560 ≤ length (l .words)) × (l .i < 40) × (c .new-state-in .result .outflow ≤ 1000000000000)) × (segmentIn (netOf (l .words)) (l .i) .exit ≤ 1000)
+    ((2560 ≤ length (l .words)) × (l .i < 40) × (c .new-state-in .result .flows .outflow ≤ 1000000000000)) × (segmentIn (netOf (l .words)) (l .i) .exit ≤ 1000)
 passes c =
     let t = c .before .before .before .before in
     pass-ok (start (t .before) .pre) (t .before .loop .inv .0) (t .loop-test .taken) (c .new-state-in .ensures)
@@ -63,7 +63,7 @@ loop-again c =
     let t = stored c in
     let l = t .before in
     let ok = start l .pre in
-    let made = c .before .before .before .before .before .before .before in
+    let made = c .before .before .before .before .before .before .before .before in
     let pass = c .before .before .before .before .before .pass-on in (
       turn-next ok (l .loop .inv .0) (t .loop-test .taken) (made .new-state-in .ensures) (span (start l .args .at + 16 * l .loop .i) 16) (c .before .before .store .ensures) (pass .ensures),
       sum-more (l .loop .inv .1) (exit-is ok (l .loop .inv .0) (t .loop-test .taken) (made .new-state-in .ensures) (pass .ensures)) (omega (arith, passes made .0 .2)),
@@ -93,9 +93,9 @@ step-states-spec =
     (λ c. omega (arith, long (c .before .before))) (λ c. search needs) (λ c. search needs)
     (λ c. omega (arith, c .shared-slice-known2 .given (c .before .before .before .loop .i)))
     (λ c κs. let t = c .before .before .before in new-state-ok (start (t .before) .pre) (t .before .loop .inv .0) (t .loop-test .taken))
-    (λ c κs. passes (c .before))
+    (λ c κs. passes (c .before .before))
     (λ c. omega (arith, c .before .pass-on .ensures))
-    (λ c. let l = passed-on c .before in omega (arith, size-high (start l .pre), l .loop .inv .1 .high, passes (c .before .before .before) .0 .2))
+    (λ c. let l = passed-on c .before in omega (arith, size-high (start l .pre), l .loop .inv .1 .high, passes (c .before .before .before .before) .0 .2))
     (λ c. let s = start (passed-on c .before) in omega (arith, s .pre, s .good))
     (λ c. search needs) (λ c. search needs)
     (λ c. let l = passed-on c .before in omega (arith, start l .pre .room, long l))

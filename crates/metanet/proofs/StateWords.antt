@@ -1,0 +1,61 @@
+-- The 16 words of a state: how many they are, and what is read back of them after each call that writes them.
+use Prim.Native.Nat.{ℕ}
+use mathlib.Core.Path.{_≡_, refl}
+use mathlib.Core.Bool.{Bool}
+use mathlib.Core.List.{List}
+use lib.IntN.{ℤ}
+use lib.ListN.{length, length-set}
+use lib.Ieee.{Float}
+use Rattle.laws.specs.Lists.{part}
+use Rattle.laws.proofs.Lists.{getD-set, getD-take-test}
+use Rattle.format.specs.declared.Head.{Head}
+use Rattle.format.specs.declared.Segment.{Segment}
+use Rattle.metanet.specs.declared.SegmentState.{SegmentState}
+use Rattle.metanet.specs.declared.Neighbours.{Neighbours}
+use Rattle.metanet.specs.declared.Setting.{Setting}
+use Rattle.metanet.specs.Change.{signedState, meteredState}
+use Rattle.metanet.specs.Step.{newState}
+use Rattle.metanet.specs.Words.{stateIn, stateWords, signedWords, meteredWords, steppedWords}
+
+-- a state stands in 16 words
+pub state-take : (w : List ℕ) (v : Float) → stateIn (part 0 16 w) v ≡ stateIn w v
+unfolding stateIn
+state-take w v = simp getD-take-test
+
+-- ---- how many
+
+pub length-state : (r : SegmentState) → length (stateWords r) ≡ 16
+unfolding stateWords
+length-state r = refl
+
+pub length-signed : (limit : ℕ) (compliance : ℤ) (w : List ℕ) → length (signedWords limit compliance w) ≡ length w
+unfolding signedWords
+length-signed limit compliance w = simp length-set
+
+pub length-metered : (q : ℕ) (setting : Setting) (w : List ℕ) → length (meteredWords q setting w) ≡ length w
+unfolding meteredWords
+length-metered q setting w = simp length-set
+
+pub length-stepped : (w : List ℕ) (r : SegmentState) → length (steppedWords w r) ≡ length w
+unfolding steppedWords
+length-stepped w r = simp length-set
+
+-- ---- what is read back
+
+pub state-coded : (r : SegmentState) → stateIn (stateWords r) (r .speed) ≡ r
+unfolding stateWords stateIn
+state-coded r = refl
+
+module _ (w : List ℕ) (v : Float) (many : length w ≡ 16) where
+  pub state-signed : (limit : ℕ) (compliance : ℤ) → stateIn (signedWords limit compliance w) v ≡ signedState limit compliance (stateIn w v)
+  unfolding stateIn signedWords
+  state-signed limit compliance = simp (getD-set, length-set, many)
+
+  pub state-metered : (q : ℕ) (setting : Setting) → stateIn (meteredWords q setting w) v ≡ meteredState q setting (stateIn w v)
+  unfolding stateIn meteredWords
+  state-metered q setting = simp (getD-set, length-set, many)
+
+  pub state-stepped : (h : Head) (s : Segment) (f t d : ℕ) (onRamp : Bool) (o : Neighbours)
+      → let r = newState h s f (stateIn w v) t d onRamp o in stateIn (steppedWords w r) (r .speed) ≡ r
+  unfolding stateIn steppedWords newState
+  state-stepped h s f t d onRamp o = simp (getD-set, length-set, many)

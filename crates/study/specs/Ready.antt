@@ -1,7 +1,7 @@
 -- What the functions inside rest on.
 use Prim.Native.Nat.{ℕ, _+_, _*_}
 use mathlib.Core.Path.{_≡_}
-use mathlib.Core.List.{List, [], _∷_, _++_}
+use mathlib.Core.List.{List, _++_}
 use lib.ListN.{length, getD, drop, replicate}
 use lib.Ieee.{nan}
 use Rattle.laws.specs.Lists.{parts}

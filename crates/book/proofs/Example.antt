@@ -11,10 +11,9 @@ use borrow.Author.Tests.{le-ltb}
 use Rattle.laws.specs.First.{row, first, firstOf, anyOf}
 use Rattle.laws.specs.Sums.{sumOf}
 use Rattle.laws.proofs.First.{row-skipped, first-zero}
-use Rattle.format.specs.Network.{Network, networkNumber, headBad, rising, curveNumber, segmentBad, fieldThenSpeed, segmentNumber, rowsNumber}
+use Rattle.format.specs.Network.{Network, networkNumber, headBad, rising, curveNumber, segmentBad, fieldThenSpeed, segmentNumber, rowsNumber, Formed}
 use Rattle.format.specs.File.{networkOf}
 use Rattle.format.specs.Written.{fileOf}
-use Rattle.format.specs.Network.{Formed}
 use Rattle.format.specs.Marked.{oneSegment}
 use Rattle.format.proofs.Reading.{read-back, file-accepted-of}
 use Rattle.metanet.specs.Case.{Case}
@@ -23,15 +22,15 @@ use Rattle.metanet.specs.Speed.{keep, newSpeed}
 use Rattle.metanet.specs.Step.{signOf, rateOf, stepOn}
 use Rattle.metanet.specs.Sound.{arrivalNumber, stepNumber}
 use Rattle.book.specs.Arrangement.{wordsFor, speedsFor}
-use Rattle.book.specs.Calls.{accepted}
+use Rattle.book.specs.Question.{accepted, questionNumber, figuresAsked, figuresFor}
 use Rattle.metanet.specs.Start.{startState, startCase, startSegmentNumber, startNumber}
-use Rattle.book.specs.Refusal.{askedNumber, refusal}
+use Rattle.book.specs.Refusal.{askedNumber, refusal, itemNumber, slotRefusal, questionRefusal}
 use Rattle.book.specs.Perform.{Arrays, refusalAt, unless, answerOf}
 use Rattle.metanet.specs.Report.{caseFigures, segmentFigures}
 use Rattle.book.specs.Book.{Book, started, entered, enter}
 use Rattle.metanet.specs.Line.{stepsOf, change, caseOf}
 use Rattle.book.specs.Claim.{bookAnswers}
-use Rattle.book.specs.Example.{begin, calls, expected, TalliesAnswers}
+use Rattle.book.specs.Example.{begin, calls, expected, TalliesAnswers, answered}
 use Rattle.book.proofs.Demand3.{demand-3, begin-entered}
 
 within : networkNumber tallies ≡ 0
@@ -57,7 +56,7 @@ unfolding oneSegment startNumber startSegmentNumber row firstOf first anyOf
 lists-taken = refl
 
 in-book : (words speeds : ℕ) → bookAnswers words speeds calls (started tallies (startOf tallies)) ≡ expected
-unfolding bookAnswers calls expected enter entered unless refusal askedNumber answerOf caseFigures segmentFigures oneSegment startCase startState stepsOf caseOf change stepNumber arrivalNumber row first firstOf anyOf stepOn newSpeed keep signOf rateOf sumOf add sub mul div lt le ofInt toUnsigned toBits
+unfolding bookAnswers answered enter entered unless refusal itemNumber slotRefusal questionRefusal askedNumber questionNumber answerOf figuresAsked figuresFor caseFigures segmentFigures oneSegment startCase startState stepsOf caseOf change stepNumber arrivalNumber row first firstOf anyOf stepOn newSpeed keep signOf rateOf sumOf add sub mul div lt le ofInt toUnsigned toBits
 in-book words speeds = refl
 
 module _ (a : Arrays) (many : 2744 ≤ length (a .words)) (speeds-many : 7 ≤ length (a .speeds)) where

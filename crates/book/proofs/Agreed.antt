@@ -17,10 +17,9 @@ use Rattle.book.specs.Arrangement.{networkAt, filledAt, caseAt}
 use Rattle.book.specs.Sound.{sound}
 use Rattle.book.specs.Question.{CaseQuestion, ofCase, questionNumber, figuresFor, figuresAsked, Answer, refused, figures}
 use Rattle.book.specs.Calls.{Call, start, item, hold, recall, dropSlot, question, isStart, isDrop, noStart, noDrop}
-use Rattle.book.specs.Refusal.{askedNumber, questionRefusal, refusal}
+use Rattle.book.specs.Refusal.{questionRefusal, refusal}
 use Rattle.book.specs.Perform.{Arrays, Outcome, unless, refusalAt, answerOf, perform, after, taken}
 use Rattle.book.specs.Book.{Book, isFilled, started, entered, groundsIn, enter}
-use Rattle.book.specs.Claim.{bookAfter}
 use Rattle.book.specs.Agreed.{AgreedCase}
 use Rattle.book.proofs.Rel.{Rel}
 use Rattle.book.proofs.Views.{filled-view, sound-view, refusal-view}
@@ -83,8 +82,8 @@ module _ (words speeds : ℕ) where
             )
         go (suc m) e f = (K, f)
 
-    list-keeps : (cs : List Call) (a : Arrays) (b : Book) → Rel words speeds a b → Leave k (taken cs a) → Keeps k l o b → Keeps k l o (bookAfter words speeds cs b)
-    unfolding taken bookAfter
+    list-keeps : (cs : List Call) (a : Arrays) (b : Book) → Rel words speeds a b → Leave k (taken cs a) → Keeps k l o b → Keeps k l o (after (enter words speeds) cs b)
+    unfolding taken after
     list-keeps [] a b r f K = K
     list-keeps (c ∷ cs) a b r f K =
         let p = call-keeps b c (taken cs (perform c a .state)) (rw (refusal-view r c) at f) K in
@@ -114,11 +113,11 @@ module _ (k : ℕ) (y z : Arrays) (sound-y : sound (y .words) (y .speeds) ≡ tr
   sounds = sound-z ∙ sym sound-y
 
   answered-same : (q : CaseQuestion) → perform (question (ofCase k q)) z .answer ≡ perform (question (ofCase k q)) y .answer
-  unfolding perform refusalAt refusal questionRefusal askedNumber answerOf figuresAsked
+  unfolding perform refusalAt refusal questionRefusal answerOf figuresAsked
   answered-same q =
       said-is (refusalAt (question (ofCase k q)) z) z _
       ∙ (λ j. said
-      (row (not (sounds j)) 12 (first (row (ltb 6 k) 21 (row (not (eqb k 0 || filled j)) 23 0)) (questionNumber (network j) q)))
+      (row (not (sounds j)) 12 (row (ltb 6 k) 21 (row (not (eqb k 0 || filled j)) 23 (questionNumber (network j) q))))
       (figures (figuresFor q (network j) (case j))))
       ∙ sym (said-is (refusalAt (question (ofCase k q)) y) y _)
 
@@ -136,14 +135,14 @@ agreed-case file mvs initial queues before later k a e h no-start no-drop =
     let speeds : ℕ = length (a .speeds) in
     let z₀ : Arrays = perform (start file mvs initial queues) a .state in
     let b₀ : Book = started (networkOf file) (startCase (networkOf file) mvs initial queues) in
-    let x : Arrays = after before z₀ in
-    let o : Book = bookAfter words speeds before b₀ in
+    let x : Arrays = after perform before z₀ in
+    let o : Book = after (enter words speeds) before b₀ in
     let rx : Rel words speeds x o = list-rel words speeds before z₀ b₀ (begin-rel file mvs initial queues a e) in
     let y : Arrays = perform (hold k) x .state in
     let oy : Book = enter words speeds (hold k) o .state in
     let ry : Rel words speeds y oy = call-rel rx (hold k) in
-    let z : Arrays = after later y in
-    let oz : Book = bookAfter words speeds later oy in
+    let z : Arrays = after perform later y in
+    let oz : Book = after (enter words speeds) later oy in
     let rz : Rel words speeds z oz = list-rel words speeds later y oy ry in
     let Ky : Keeps words speeds k (o .live) o oy = hold-keeps words speeds k o (sym (refusal-view rx (hold k)) ∙ h) in
     let Kz : Keeps words speeds k (o .live) o oz = list-keeps words speeds later y oy ry (no-start, no-drop) Ky in

@@ -18,7 +18,7 @@ use Rattle.book.specs.Refusal.{refusal}
 use Rattle.book.specs.Perform.{Arrays, unless, groundsAt, refusalAt, answerOf, perform, answers, after, taken, stored}
 use Rattle.metanet.specs.Line.{Line}
 use Rattle.book.specs.Book.{Book, started, entered, groundsIn, enter}
-use Rattle.book.specs.Claim.{bookAfter, bookAnswers, Balanced, Since, Demand3}
+use Rattle.book.specs.Claim.{Balanced, Since, Demand3}
 use Rattle.book.proofs.Rel.{Kept, Rel}
 use Rattle.book.proofs.Views.{filled-view, sound-view, refusal-view}
 use Rattle.book.proofs.History.{since-start, since-call}
@@ -30,14 +30,14 @@ use Rattle.metanet.proofs.LineStart.{start-total}
 -- ---- a list of calls on arrays that hold a book
 
 module _ (words speeds : ℕ) where
-  list-answers : (cs : List Call) (a : Arrays) (b : Book) → Rel words speeds a b → answers cs a ≡ bookAnswers words speeds cs b
-  unfolding answers bookAnswers
+  list-answers : (cs : List Call) (a : Arrays) (b : Book) → Rel words speeds a b → answers perform cs a ≡ answers (enter words speeds) cs b
+  unfolding answers
   list-answers [] a b r = refl
   list-answers (c ∷ cs) a b r =
       λ i. call-same r c i ∷ list-answers cs (perform c a .state) (enter words speeds c b .state) (call-rel r c) i
 
-  pub list-rel : (cs : List Call) (a : Arrays) (b : Book) → Rel words speeds a b → Rel words speeds (after cs a) (bookAfter words speeds cs b)
-  unfolding after bookAfter
+  pub list-rel : (cs : List Call) (a : Arrays) (b : Book) → Rel words speeds a b → Rel words speeds (after perform cs a) (after (enter words speeds) cs b)
+  unfolding after
   list-rel [] a b r = r
   list-rel (c ∷ cs) a b r = list-rel cs (perform c a .state) (enter words speeds c b .state) (call-rel r c)
 
@@ -46,11 +46,11 @@ module _ (words speeds : ℕ) where
   since-first r s c later B more = rw (refusal-view r c) (since-call s words speeds c later B more)
 
   list-since : (cs : List Call) (h : List Call) (a : Arrays) (b : Book) → Rel words speeds a b → Since h b
-      → Since (h ++ taken cs a) (bookAfter words speeds cs b)
-  unfolding taken bookAfter
+      → Since (h ++ taken cs a) (after (enter words speeds) cs b)
+  unfolding taken after
   list-since [] h a b r s = rw (append-nil h) s
   list-since (c ∷ cs) h a b r s =
-      since-first r s c (taken cs (perform c a .state)) (bookAfter words speeds cs (enter words speeds c b .state))
+      since-first r s c (taken cs (perform c a .state)) (after (enter words speeds) cs (enter words speeds c b .state))
       (λ x t. list-since cs x (perform c a .state) (enter words speeds c b .state) (call-rel r c) t)
 
 -- ---- the Start that the list begins with
@@ -81,7 +81,7 @@ module _ (file mvs initial queues : List ℕ) (a : Arrays) (e : refusalAt (start
   unfolding taken ifAccepted
   begin-taken cs = rw e
 
-  begin-past : (cs : List Call) (m : ℕ) → sizesWithin m (taken (begin ∷ cs) a) ≡ true → Past m (after (begin ∷ cs) a) a
+  begin-past : (cs : List Call) (m : ℕ) → sizesWithin m (taken (begin ∷ cs) a) ≡ true → Past m (after perform (begin ∷ cs) a) a
   unfolding sizesWithin after
   begin-past cs m h =
       let z : Arrays = perform begin a .state in
@@ -122,7 +122,7 @@ balance s k l K =
 -- ---- demand 3
 
 pub demand-3 : Demand3
-unfolding answers after bookAnswers bookAfter
+unfolding answers after
 demand-3 file mvs initial queues cs a b e =
     let words : ℕ = length (a .words) in
     let speeds : ℕ = length (a .speeds) in
@@ -130,8 +130,8 @@ demand-3 file mvs initial queues cs a b e =
     let b₀ : Book = started (networkOf file) (startCase (networkOf file) mvs initial queues) in
     let z₀ : Arrays = perform begin a .state in
     let r₀ : Rel words speeds z₀ b₀ = begin-rel file mvs initial queues a e in
-    let r : Rel words speeds (after cs z₀) (bookAfter words speeds cs b₀) = list-rel words speeds cs z₀ b₀ r₀ in
-    let s : Since (taken (begin ∷ cs) a) (bookAfter words speeds cs b₀) =
+    let r : Rel words speeds (after perform cs z₀) (after (enter words speeds) cs b₀) = list-rel words speeds cs z₀ b₀ r₀ in
+    let s : Since (taken (begin ∷ cs) a) (after (enter words speeds) cs b₀) =
     rw (begin-taken file mvs initial queues a e cs) (list-since words speeds cs (begin ∷ []) z₀ b₀ r₀ (since-start [] file mvs initial queues)) in
     rw (begin-entered file mvs initial queues a e b)
     (record {

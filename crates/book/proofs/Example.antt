@@ -24,12 +24,11 @@ use Rattle.metanet.specs.Sound.{arrivalNumber, stepNumber}
 use Rattle.book.specs.Arrangement.{wordsFor, speedsFor}
 use Rattle.book.specs.Question.{accepted, questionNumber, figuresAsked, figuresFor}
 use Rattle.metanet.specs.Start.{startState, startCase, startSegmentNumber, startNumber}
-use Rattle.book.specs.Refusal.{askedNumber, refusal, itemNumber, slotRefusal, questionRefusal}
-use Rattle.book.specs.Perform.{Arrays, refusalAt, unless, answerOf}
+use Rattle.book.specs.Refusal.{refusal, itemNumber, slotRefusal, questionRefusal}
+use Rattle.book.specs.Perform.{Arrays, refusalAt, unless, answerOf, answers}
 use Rattle.metanet.specs.Report.{caseFigures, segmentFigures}
 use Rattle.book.specs.Book.{Book, started, entered, enter}
 use Rattle.metanet.specs.Line.{stepsOf, change, caseOf}
-use Rattle.book.specs.Claim.{bookAnswers}
 use Rattle.book.specs.Example.{begin, calls, expected, TalliesAnswers, answered}
 use Rattle.book.proofs.Demand3.{demand-3, begin-entered}
 
@@ -55,8 +54,8 @@ lists-taken : startNumber tallies (20000 ∷ []) (90000 ∷ []) (5000 ∷ []) �
 unfolding oneSegment startNumber startSegmentNumber row firstOf first anyOf
 lists-taken = refl
 
-in-book : (words speeds : ℕ) → bookAnswers words speeds calls (started tallies (startOf tallies)) ≡ expected
-unfolding bookAnswers answered enter entered unless refusal itemNumber slotRefusal questionRefusal askedNumber questionNumber answerOf figuresAsked figuresFor caseFigures segmentFigures oneSegment startCase startState stepsOf caseOf change stepNumber arrivalNumber row first firstOf anyOf stepOn newSpeed keep signOf rateOf sumOf add sub mul div lt le ofInt toUnsigned toBits
+in-book : (words speeds : ℕ) → answers (enter words speeds) calls (started tallies (startOf tallies)) ≡ expected
+unfolding answers answered enter entered unless refusal itemNumber slotRefusal questionRefusal questionNumber answerOf figuresAsked figuresFor caseFigures segmentFigures oneSegment startCase startState stepsOf caseOf change stepNumber arrivalNumber row first firstOf anyOf stepOn newSpeed keep signOf rateOf sumOf add sub mul div lt le ofInt toUnsigned toBits
 in-book words speeds = refl
 
 module _ (a : Arrays) (many : 2744 ≤ length (a .words)) (speeds-many : 7 ≤ length (a .speeds)) where
@@ -73,7 +72,7 @@ module _ (a : Arrays) (many : 2744 ≤ length (a .words)) (speeds-many : 7 ≤ l
       ∙ lists-taken
 
 pub tallies-answers : TalliesAnswers
-unfolding bookAnswers
+unfolding answers
 tallies-answers a many speeds-many =
     let words : ℕ = length (a .words) in
     let speeds : ℕ = length (a .speeds) in

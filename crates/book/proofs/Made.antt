@@ -9,13 +9,13 @@ use Rattle.book.specs.Claim.{Made, none-made, made-then, Demand3Made}
 use Rattle.book.proofs.Demand3.{demand-3}
 
 -- the answers and the last arrays are those of the list
-pub made-are : {cs : List Call} {a z : Arrays} {xs : List Answer} → Made cs a xs z → (xs ≡ answers cs a) × (z ≡ after cs a)
+pub made-are : {cs : List Call} {a z : Arrays} {xs : List Answer} → Made cs a xs z → (xs ≡ answers perform cs a) × (z ≡ after perform cs a)
 unfolding answers after
 made-are none-made = (refl, refl)
 made-are (made-then {c = c} {cs = cs} {a = a} {y = y} p m) =
     let left : y ≡ perform c a .state = λ i. record { words = p .words-are i; speeds = p .speeds-are i } in
     let rest = made-are m in
-    (λ i. p .answers i ∷ (rest .0 ∙ ap (answers cs) left) i, rest .1 ∙ ap (after cs) left)
+    (λ i. p .answers i ∷ (rest .0 ∙ ap (answers perform cs) left) i, rest .1 ∙ ap (after perform cs) left)
 
 -- a call that answered that it was accepted was not refused
 not-refused : (m : ℕ) (a : Arrays) (o : Outcome Arrays) → accepted ≡ unless m a o .answer → m ≡ 0

@@ -77,7 +77,7 @@ module _ (m : ℕ) where
 
   -- ---- the whole list
   pub list-past : (words speeds : ℕ) (cs : List Call) (a : Arrays) (b : Book) → Rel words speeds a b → b .network .head .size ≤ m
-      → sizesWithin m (taken cs a) ≡ true → Past m (after cs a) a
+      → sizesWithin m (taken cs a) ≡ true → Past m (after perform cs a) a
   unfolding taken after
   list-past words speeds [] a b r h e = past-refl
   list-past words speeds (c ∷ cs) a b r h e =

@@ -8,8 +8,8 @@ use borrow.Author.Tests.{not-false}
 use Rattle.laws.proofs.First.{row-passed, row-later, first-zero-left}
 use Rattle.book.specs.Arrangement.{networkAt, runCountAt, caseAt}
 use Rattle.book.specs.Calls.{Call, start, hold, recall, dropSlot, item, question}
-use Rattle.book.specs.Question.{runCount, figures, figuresAsked, Question, ofCase, figuresFor}
-use Rattle.book.specs.Refusal.{askedNumber, refusal, questionRefusal}
+use Rattle.book.specs.Question.{runCount, figures, figuresAsked, Question, ofCase, figuresFor, CaseQuestion}
+use Rattle.book.specs.Refusal.{refusal, questionRefusal}
 use Rattle.book.specs.Perform.{Arrays, Outcome, unless, answerOf, perform, stored}
 use Rattle.book.specs.Book.{Book, isFilled, entered, groundsIn, enter, bookCase}
 use Rattle.book.proofs.Rel.{Rel}
@@ -34,15 +34,15 @@ module _ {words speeds : ℕ} {a : Arrays} {b : Book} (r : Rel words speeds a b)
   store-rel (question q) e = r
 
   -- the case that a question may ask about
-  asked : (k : ℕ) → askedNumber k (groundsIn words speeds b) ≡ 0 → (eqb k 0 || isFilled (b .slot k)) ≡ true
-  unfolding askedNumber
-  asked k e = not-false _ (row-passed _ _ _ (row-later _ _ _ e))
+  asked : (k : ℕ) (q : CaseQuestion) → questionRefusal (ofCase k q) (groundsIn words speeds b) ≡ 0 → (eqb k 0 || isFilled (b .slot k)) ≡ true
+  unfolding questionRefusal
+  asked k q e = not-false _ (row-passed _ _ _ (row-later _ _ _ e))
 
   -- arrays and book answer alike
   figures-same : (q : Question) → questionRefusal q (groundsIn words speeds b) ≡ 0
       → figuresAsked q (networkAt (a .words)) (caseAt (a .words) (a .speeds)) (runCountAt (a .words)) ≡ figuresAsked q (b .network) (bookCase b) (b .runs)
-  unfolding figuresAsked questionRefusal
-  figures-same (ofCase k q) e = λ j. figuresFor q (r .network j) (asked-view r k (asked k (first-zero-left _ _ e)) j)
+  unfolding figuresAsked
+  figures-same (ofCase k q) e = λ j. figuresFor q (r .network j) (asked-view r k (asked k q e) j)
   figures-same runCount e = λ j. r .runs j ∷ []
 
   answer-same : (c : Call) → refusal c (groundsIn words speeds b) ≡ 0

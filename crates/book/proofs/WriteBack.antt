@@ -21,7 +21,7 @@ use Rattle.book.specs.Sound.{sound}
 use Rattle.book.specs.Calls.{Call, start, hold, recall, dropSlot, isStart, noStart, item, question}
 use Rattle.metanet.specs.Start.{startCase}
 use Rattle.book.specs.Refusal.{refusal}
-use Rattle.book.specs.Perform.{Arrays, refusalAt, after}
+use Rattle.book.specs.Perform.{Arrays, refusalAt, after, perform}
 use Rattle.book.specs.Book.{Book, started}
 use Rattle.book.specs.Claim.{Since}
 use Rattle.book.specs.Write.{writeRefusal, writtenBytes, StudyWritesBack}
@@ -79,7 +79,7 @@ file-is file mvs initial queues cs b n s =
 
 pub write-back : StudyWritesBack
 write-back file mvs initial queues cs a out e n bs room =
-    let z : Arrays = after (start file mvs initial queues ∷ cs) a in
+    let z : Arrays = after perform (start file mvs initial queues ∷ cs) a in
     let f : fileNumber file ≡ 0 = file-taken file mvs initial queues a e in
     let b : Book = started (networkOf file) (startCase (networkOf file) mvs initial queues) in
     let d = demand-3 file mvs initial queues cs a b e in

@@ -22,8 +22,8 @@ pub record StaysAgreed (k : ℕ) (x y z : Arrays) : Type 0 where
 abbrev pub AgreedCase : Type 0
 AgreedCase =
     (file mvs speeds queues : List ℕ) (before later : List Call) (k : ℕ) (a : Arrays)
-    → (let x : Arrays = after (start file mvs speeds queues ∷ before) a in
+    → (let x : Arrays = after perform (start file mvs speeds queues ∷ before) a in
     let y : Arrays = perform (hold k) x .state in
     refusalAt (start file mvs speeds queues) a ≡ 0 → refusalAt (hold k) x ≡ 0
     → noStart (taken later y) ≡ true → noDrop k (taken later y) ≡ true
-    → StaysAgreed k x y (after later y))
+    → StaysAgreed k x y (after perform later y))

@@ -17,9 +17,6 @@ use Rattle.metanet.specs.Words.{netOf, caseIn}
 abbrev pub slots : ℕ
 slots = 6
 
-abbrev pub cases : ℕ
-cases = 1 + slots
-
 -- the run count's word, the first after the network's
 abbrev pub runWord : ℕ
 runWord = networkWords
@@ -57,10 +54,10 @@ caseSpeed n k = k * n
 
 -- at least 2,560 + 7 × (16n + 8) + 16 words and 7n speeds
 abbrev pub wordsFor : ℕ → ℕ
-wordsFor n = runWord + marksLength + cases * caseLength n
+wordsFor n = runWord + marksLength + (1 + slots) * caseLength n
 
 abbrev pub speedsFor : ℕ → ℕ
-speedsFor n = cases * n
+speedsFor n = (1 + slots) * n
 
 -- ---- what stands there
 

@@ -15,18 +15,8 @@ use Rattle.book.specs.Arrangement.{wordsFor, speedsFor, networkAt, runCo
 use Rattle.book.specs.Sound.{sound}
 use Rattle.book.specs.Question.{Answer, accepted}
 use Rattle.book.specs.Calls.{Call, start, noStart, sizesWithin, stepsIn, heldIn}
-use Rattle.book.specs.Perform.{Arrays, refusalAt, Performs, after, answers, taken}
+use Rattle.book.specs.Perform.{Arrays, refusalAt, Performs, after, answers, taken, Outcome, perform}
 use Rattle.book.specs.Book.{Book, isFilled, enter}
-
--- ---- the list in the book, given the two lengths
-
-unfoldable pub bookAfter : ℕ → ℕ → List Call → Book → Book
-bookAfter words speeds [] b = b
-bookAfter words speeds (c ∷ cs) b = bookAfter words speeds cs (enter words speeds c b .state)
-
-unfoldable pub bookAnswers : ℕ → ℕ → List Call → Book → List Answer
-bookAnswers words speeds [] b = []
-bookAnswers words speeds (c ∷ cs) b = enter words speeds c b .answer ∷ bookAnswers words speeds cs (enter words speeds c b .state)
 
 -- ---- the vehicles of the case c of the line l, from the start case begun with v mv handed to Start
 pub record Balanced (w : Network) (begun : Case) (v : ℕ) (l : Line) (c : Case) : Type 0 where
@@ -81,19 +71,18 @@ pub record Holds (a : Arrays) (xs : List Answer) (z : Arrays) (h : List Call) (y
   pub words-past : (m : ℕ) → sizesWithin m h ≡ true → drop (wordsFor m) (z .words) ≡ drop (wordsFor m) (a .words)
   pub speeds-past : (m : ℕ) → sizesWithin m h ≡ true → drop (speedsFor m) (z .speeds) ≡ drop (speedsFor m) (a .speeds)
 
--- the list cs on the arrays a, with the answers xs and the arrays z at its end, beside the book b
+-- the list cs on the arrays a, with the answers xs and the arrays z at its end, beside the book b, which is given the two lengths
 abbrev pub HoldsOf : List Call → Arrays → List Answer → Arrays → Book → Type 0
 HoldsOf cs a xs z b =
-    let words : ℕ = length (a .words) in
-    let speeds : ℕ = length (a .speeds) in
-    Holds a xs z (taken cs a) (bookAnswers words speeds cs b) (bookAfter words speeds cs b)
+    let call : Call → Book → Outcome Book = enter (length (a .words)) (length (a .speeds)) in
+    Holds a xs z (taken cs a) (answers call cs b) (after call cs b)
 
 -- for every list of calls that begins with a Start to which no refusal applies, on arrays of any content, whatever the book had before
 abbrev pub Demand3 : Type 0
 Demand3 =
     (file mvs speeds queues : List ℕ) (cs : List Call) (a : Arrays) (b : Book)
     → refusalAt (start file mvs speeds queues) a ≡ 0
-    → (let all : List Call = start file mvs speeds queues ∷ cs in HoldsOf all a (answers all a) (after all a) b)
+    → (let all : List Call = start file mvs speeds queues ∷ cs in HoldsOf all a (answers perform all a) (after perform all a) b)
 
 -- ---- the same of the functions
 

@@ -10,7 +10,7 @@ use Rattle.metanet.specs.Line.{signed, metered, stepped}
 use Rattle.metanet.specs.declared.Setting.the-variants.{Open}
 use Rattle.book.specs.Question.{totals, segment, ofCase, runCount, Answer, refused, accepted, figures}
 use Rattle.book.specs.Calls.{Call, start, item, hold, recall, dropSlot, question}
-use Rattle.book.specs.Perform.{Arrays, answers}
+use Rattle.book.specs.Perform.{Arrays, answers, perform}
 
 -- 20,000 mv, 90,000 m/h, queue 5,000
 abbrev pub begin : Call
@@ -50,4 +50,4 @@ expected = map (λ (p : Call × Answer). p .1) answered
 
 -- 2,560 + 7 × (16 + 8) + 16 words, 7 speeds
 abbrev pub TalliesAnswers : Type 0
-TalliesAnswers = (a : Arrays) → 2744 ≤ length (a .words) → 7 ≤ length (a .speeds) → answers (begin ∷ calls) a ≡ accepted ∷ expected
+TalliesAnswers = (a : Arrays) → 2744 ≤ length (a .words) → 7 ≤ length (a .speeds) → answers perform (begin ∷ calls) a ≡ accepted ∷ expected

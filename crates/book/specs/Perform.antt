@@ -142,17 +142,17 @@ pub record Performs (c : Call) (words : List ℕ) (speeds : List Float) (answer 
   pub words-are : words' ≡ perform c (lent words speeds) .state .words
   pub speeds-are : speeds' ≡ perform c (lent words speeds) .state .speeds
 
--- ---- a list of calls: each later call gets the arrays as the one before left them
+-- ---- a list of calls: each later call gets the state as the one before left it; call says what one does, on arrays or in the book
 
-unfoldable pub after : List Call → Arrays → Arrays
-after [] a = a
-after (c ∷ cs) a = after cs (perform c a .state)
+unfoldable pub after : {S : Type 0} → (Call → S → Outcome S) → List Call → S → S
+after call [] s = s
+after call (c ∷ cs) s = after call cs (call c s .state)
 
-unfoldable pub answers : List Call → Arrays → List Answer
-answers [] a = []
-answers (c ∷ cs) a = perform c a .answer ∷ answers cs (perform c a .state)
+unfoldable pub answers : {S : Type 0} → (Call → S → Outcome S) → List Call → S → List Answer
+answers call [] s = []
+answers call (c ∷ cs) s = call c s .answer ∷ answers call cs (call c s .state)
 
--- the calls that are accepted; a refused call is left out
+-- the calls that are accepted on the arrays; a refused call is left out
 unfoldable pub taken : List Call → Arrays → List Call
 taken [] a = []
 taken (c ∷ cs) a = let later = taken cs (perform c a .state) in ifAccepted (refusalAt c a) (c ∷ later) later

@@ -45,12 +45,8 @@ unfoldable pub slotRefusal : ℕ → Grounds → ℕ
 slotRefusal k g = row (slotMissing k) 21 (row (not (g .filled k)) 23 0)
 
 -- a question about a case: 21; 23; then its own rows. Case 0 is the live one
-unfoldable pub askedNumber : ℕ → Grounds → ℕ
-askedNumber k g = row (ltb slots k) 21 (row (not (eqb k 0 || g .filled k)) 23 0)
-
 unfoldable pub questionRefusal : Question → Grounds → ℕ
-unfolding askedNumber
-questionRefusal (ofCase k q) g = first (askedNumber k g) (questionNumber (g .network) q)
+questionRefusal (ofCase k q) g = row (ltb slots k) 21 (row (not (eqb k 0 || g .filled k)) 23 (questionNumber (g .network) q))
 questionRefusal runCount g = 0
 
 unfoldable pub refusal : Call → Grounds → ℕ

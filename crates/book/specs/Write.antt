@@ -48,5 +48,5 @@ StudyWritesBack =
     → noStart (taken cs (perform (start file mvs speeds queues) a .state)) ≡ true
     → Bytes file
     → length file ≤ length out
-    → (let z : Arrays = after (start file mvs speeds queues ∷ cs) a in
+    → (let z : Arrays = after perform (start file mvs speeds queues ∷ cs) a in
     writtenBytes (z .words) (z .speeds) out ≡ file ++ drop (length file) out)

@@ -7,7 +7,7 @@ use mathlib.Core.Option.{none, some}
 use lib.Dec.{ltb, eqb}
 use lib.ListN.{length}
 use borrow.Author.Tests.{not-true, eq-eqb, eqb-true}
-use Rattle.laws.specs.First.{row, first, ifAccepted}
+use Rattle.laws.specs.First.{row, ifAccepted}
 use Rattle.laws.proofs.First.{row-passed, row-later}
 use Rattle.laws.proofs.Tests.{and-left, and-right}
 use Rattle.format.specs.File.{networkOf}

@@ -5,7 +5,7 @@ use mathlib.Core.Bool.{true, _||_}
 use mathlib.Core.List.{[], _∷_}
 use lib.Dec.{eqb}
 use borrow.Author.Tests.{not-false}
-use Rattle.laws.proofs.First.{row-passed, row-later, first-zero-left}
+use Rattle.laws.proofs.First.{row-passed, row-later}
 use Rattle.book.specs.Arrangement.{networkAt, runCountAt, caseAt}
 use Rattle.book.specs.Calls.{Call, start, hold, recall, dropSlot, item, question}
 use Rattle.book.specs.Question.{runCount, figures, figuresAsked, Question, ofCase, figuresFor, CaseQuestion}

@@ -14,11 +14,11 @@ use Rattle.format.specs.Written.{fileOf}
 use Rattle.format.proofs.Reading.{read-back, file-accepted-of}
 use Rattle.metanet.specs.Start.{startCase, startNumber}
 use Rattle.book.specs.Arrangement.{wordsFor, speedsFor}
-use Rattle.book.specs.Calls.{Call, start, accepted}
+use Rattle.book.specs.Calls.{Call, start}
+use Rattle.book.specs.Question.{accepted}
 use Rattle.book.specs.Refusal.{refusal}
-use Rattle.book.specs.Perform.{Arrays, refusalAt}
-use Rattle.book.specs.Book.{Book, started}
-use Rattle.book.specs.Claim.{answers, bookAnswers}
+use Rattle.book.specs.Perform.{Arrays, refusalAt, perform, answers}
+use Rattle.book.specs.Book.{Book, started, enter}
 use Rattle.book.proofs.Demand3.{demand-3, begin-entered}
 
 module _ (w : Network) (within : networkNumber w ≡ 0) (formed : Formed w) (mvs speeds queues : List ℕ) (taken : startNumber w mvs speeds queues ≡ 0) where
@@ -38,9 +38,9 @@ module _ (w : Network) (within : networkNumber w ≡ 0) (formed : Formed w) (mvs
         ∙ taken
 
     pub begun-answers : (cs : List Call)
-        → answers (start (fileOf w) mvs speeds queues ∷ cs) a
-        ≡ accepted ∷ bookAnswers (length (a .words)) (length (a .speeds)) cs (started w (startCase w mvs speeds queues))
-    unfolding bookAnswers
+        → answers perform (start (fileOf w) mvs speeds queues ∷ cs) a
+        ≡ accepted ∷ answers (enter (length (a .words)) (length (a .speeds))) cs (started w (startCase w mvs speeds queues))
+    unfolding answers
     begun-answers cs =
         let b : Book = started w (startCase w mvs speeds queues) in
         demand-3 (fileOf w) mvs speeds queues cs a b start-taken .same-answers

@@ -1,27 +1,27 @@
 -- Demand 3, of every list of calls that begins with an accepted Start, on arrays of any content.
 use Prim.Native.Nat.{ℕ, _≤_}
-use mathlib.Core.Path.{_≡_, refl, sym, _∙_, subst}
-use mathlib.Core.Bool.{Bool, true, _||_, not}
-use mathlib.Core.List.{List, [], _∷_, _++_, append-assoc, append-nil}
+use mathlib.Core.Path.{_≡_, refl, sym, _∙_}
+use mathlib.Core.Bool.{Bool, true, _&&_}
+use mathlib.Core.List.{List, [], _∷_, _++_, append-nil}
 use lib.Dec.{leb}
 use lib.ListN.{length}
 use borrow.Author.Tests.{leb-true}
 use Rattle.laws.proofs.Tests.{and-left, and-right}
-use Rattle.laws.specs.First.{row}
+use Rattle.laws.specs.First.{row, ifAccepted}
 use Rattle.format.specs.File.{networkOf}
 use Rattle.metanet.specs.Step.{totalOf}
 use Rattle.book.specs.Arrangement.{caseAt}
-use Rattle.book.specs.Calls.{Call, start, accepted}
+use Rattle.book.specs.Calls.{Call, start, sizesWithin}
+use Rattle.book.specs.Question.{accepted}
 use Rattle.metanet.specs.Start.{startCase, handed}
 use Rattle.book.specs.Refusal.{refusal}
-use Rattle.book.specs.Perform.{Arrays, unless, groundsAt, refusalAt, answerOf, perform}
+use Rattle.book.specs.Perform.{Arrays, unless, groundsAt, refusalAt, answerOf, perform, answers, after, taken, stored}
 use Rattle.metanet.specs.Line.{Line}
 use Rattle.book.specs.Book.{Book, started, entered, groundsIn, enter}
-use Rattle.book.specs.Claim.{Entry, kind, isStart, sizesWithin, after, answers, history, bookAfter, bookAnswers, Balanced, Since, Demand3}
+use Rattle.book.specs.Claim.{Balanced, Since, Demand3}
 use Rattle.book.proofs.Rel.{Kept, Rel}
-use Rattle.book.proofs.Views.{filled-view, sound-view}
-use Rattle.book.proofs.History.{entry, since-start, since-call}
-use Rattle.book.proofs.Stored.{stored}
+use Rattle.book.proofs.Views.{filled-view, sound-view, refusal-view}
+use Rattle.book.proofs.History.{since-start, since-call}
 use Rattle.book.proofs.Storing.{start-store, start-rel}
 use Rattle.book.proofs.Sim.{call-same, call-rel}
 use Rattle.book.proofs.Past.{Past, past-trans, begun-past, list-past}
@@ -30,26 +30,28 @@ use Rattle.metanet.proofs.LineStart.{start-total}
 -- ---- a list of calls on arrays that hold a book
 
 module _ (words speeds : ℕ) where
-  list-answers : (cs : List Call) (a : Arrays) (b : Book) → Rel words speeds a b → answers cs a ≡ bookAnswers words speeds cs b
-  unfolding answers bookAnswers
+  list-answers : (cs : List Call) (a : Arrays) (b : Book) → Rel words speeds a b → answers perform cs a ≡ answers (enter words speeds) cs b
+  unfolding answers
   list-answers [] a b r = refl
   list-answers (c ∷ cs) a b r =
       λ i. call-same r c i ∷ list-answers cs (perform c a .state) (enter words speeds c b .state) (call-rel r c) i
 
-  list-rel : (cs : List Call) (a : Arrays) (b : Book) → Rel words speeds a b → Rel words speeds (after cs a) (bookAfter words speeds cs b)
-  unfolding after bookAfter
+  pub list-rel : (cs : List Call) (a : Arrays) (b : Book) → Rel words speeds a b → Rel words speeds (after perform cs a) (after (enter words speeds) cs b)
+  unfolding after
   list-rel [] a b r = r
   list-rel (c ∷ cs) a b r = list-rel cs (perform c a .state) (enter words speeds c b .state) (call-rel r c)
 
-  list-since : (cs : List Call) (h : List Entry) (a : Arrays) (b : Book) → Rel words speeds a b → Since h b
-      → Since (h ++ history cs a) (bookAfter words speeds cs b)
-  unfolding history bookAfter
+  since-first : {a : Arrays} {b : Book} → Rel words speeds a b → {h : List Call} → Since h b → (c : Call) (later : List Call) (B : Book)
+      → ((x : List Call) → Since x (enter words speeds c b .state) → Since (x ++ later) B) → Since (h ++ ifAccepted (refusalAt c a) (c ∷ later) later) B
+  since-first r s c later B more = rw (refusal-view r c) (since-call s words speeds c later B more)
+
+  list-since : (cs : List Call) (h : List Call) (a : Arrays) (b : Book) → Rel words speeds a b → Since h b
+      → Since (h ++ taken cs a) (after (enter words speeds) cs b)
+  unfolding taken after
   list-since [] h a b r s = rw (append-nil h) s
   list-since (c ∷ cs) h a b r s =
-      subst (λ (x : List Entry). Since x (bookAfter words speeds cs (enter words speeds c b .state)))
-      (append-assoc h (entry c (perform c a .answer) ∷ []) (history cs (perform c a .state)))
-      (list-since cs (h ++ (entry c (perform c a .answer) ∷ [])) (perform c a .state) (enter words speeds c b .state) (call-rel r c)
-      (rw (call-same r c) (since-call s words speeds c)))
+      since-first r s c (taken cs (perform c a .state)) (after (enter words speeds) cs (enter words speeds c b .state))
+      (λ x t. list-since cs x (perform c a .state) (enter words speeds c b .state) (call-rel r c) t)
 
 -- ---- the Start that the list begins with
 
@@ -72,21 +74,22 @@ module _ (file mvs initial queues : List ℕ) (a : Arrays) (e : refusalAt (start
   unfolding perform unless
   begin-state = rw e
 
-  begin-rel : Rel (length (a .words)) (length (a .speeds)) (perform begin a .state) fresh
+  pub begin-rel : Rel (length (a .words)) (length (a .speeds)) (perform begin a .state) fresh
   begin-rel = rw begin-state (start-rel file mvs initial queues a (groundsAt a) refl refl no-refusal)
 
-  begin-since : Since (entry begin (perform begin a .answer) ∷ []) fresh
-  begin-since = rw begin-answer (since-start [] file mvs initial queues)
+  pub begin-taken : (cs : List Call) → taken (begin ∷ cs) a ≡ begin ∷ taken cs (perform begin a .state)
+  unfolding taken ifAccepted
+  begin-taken cs = rw e
 
-  begin-past : (cs : List Call) (m : ℕ) → sizesWithin m (history (begin ∷ cs) a) ≡ true → Past m (after (begin ∷ cs) a) a
-  unfolding sizesWithin history after
+  begin-past : (cs : List Call) (m : ℕ) → sizesWithin m (taken (begin ∷ cs) a) ≡ true → Past m (after perform (begin ∷ cs) a) a
+  unfolding sizesWithin after
   begin-past cs m h =
       let z : Arrays = perform begin a .state in
-      let t : Bool = not (isStart (kind begin (perform begin a .answer))) || leb (networkOf file .head .size) m in
-      let more : Bool = sizesWithin m (history cs z) in
-      let u : t ≡ true = and-left t more h in
-      let n : networkOf file .head .size ≤ m = leb-true _ _ (rw begin-answer at u) in
-      past-trans (list-past m (length (a .words)) (length (a .speeds)) cs z fresh begin-rel n (and-right t more h))
+      let t : Bool = leb (networkOf file .head .size) m in
+      let more : Bool = sizesWithin m (taken cs z) in
+      let both : (t && more) ≡ true = rw (begin-taken cs) at h in
+      let n : networkOf file .head .size ≤ m = leb-true _ _ (and-left t more both) in
+      past-trans (list-past m (length (a .words)) (length (a .speeds)) cs z fresh begin-rel n (and-right t more both))
       (rw begin-state (begun-past (start-store file mvs initial queues a (groundsAt a) refl refl no-refusal) n))
 
   -- whatever the book had before
@@ -100,13 +103,13 @@ module _ (file mvs initial queues : List ℕ) (a : Arrays) (e : refusalAt (start
 
 -- ---- vehicles
 
-begun-total : {h : List Entry} {b : Book} (s : Since h b) → totalOf (b .network) (b .begun) ≡ handed (b .network) (s .mvs) (s .queues)
+begun-total : {h : List Call} {b : Book} (s : Since h b) → totalOf (b .network) (b .begun) ≡ handed (b .network) (s .mvs) (s .queues)
 begun-total s =
     (λ i. totalOf (s .network i) (s .begun i))
     ∙ start-total (networkOf (s .file)) (s .mvs) (s .speeds) (s .queues)
     ∙ sym (λ i. handed (s .network i) (s .mvs) (s .queues))
 
-balance : {h : List Entry} {z : Arrays} {b : Book} (s : Since h b) (k : ℕ) (l : Line) → Kept z b k l
+balance : {h : List Call} {z : Arrays} {b : Book} (s : Since h b) (k : ℕ) (l : Line) → Kept z b k l
     → Balanced (b .network) (b .begun) (handed (b .network) (s .mvs) (s .queues)) l (caseAt (z .words) (z .speeds) k)
 balance s k l K =
     rw (K .is)
@@ -119,7 +122,7 @@ balance s k l K =
 -- ---- demand 3
 
 pub demand-3 : Demand3
-unfolding answers after history bookAnswers bookAfter
+unfolding answers after
 demand-3 file mvs initial queues cs a b e =
     let words : ℕ = length (a .words) in
     let speeds : ℕ = length (a .speeds) in
@@ -127,9 +130,9 @@ demand-3 file mvs initial queues cs a b e =
     let b₀ : Book = started (networkOf file) (startCase (networkOf file) mvs initial queues) in
     let z₀ : Arrays = perform begin a .state in
     let r₀ : Rel words speeds z₀ b₀ = begin-rel file mvs initial queues a e in
-    let r : Rel words speeds (after cs z₀) (bookAfter words speeds cs b₀) = list-rel words speeds cs z₀ b₀ r₀ in
-    let s : Since (history (begin ∷ cs) a) (bookAfter words speeds cs b₀) =
-    list-since words speeds cs (entry begin (perform begin a .answer) ∷ []) z₀ b₀ r₀ (begin-since file mvs initial queues a e) in
+    let r : Rel words speeds (after perform cs z₀) (after (enter words speeds) cs b₀) = list-rel words speeds cs z₀ b₀ r₀ in
+    let s : Since (taken (begin ∷ cs) a) (after (enter words speeds) cs b₀) =
+    rw (begin-taken file mvs initial queues a e cs) (list-since words speeds cs (begin ∷ []) z₀ b₀ r₀ (since-start [] file mvs initial queues)) in
     rw (begin-entered file mvs initial queues a e b)
     (record {
       same-answers = λ i. begin-answer file mvs initial queues a e i ∷ list-answers words speeds cs z₀ b₀ r₀ i;

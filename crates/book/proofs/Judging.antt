@@ -1,11 +1,11 @@
 -- Where a study's cases stand, and which row says that it is not sound.
 use Prim.Native.Nat.{ℕ, _+_, _*_, _≤_, _<_}
 use mathlib.Core.Path.{_≡_, sym, _∙_}
-use mathlib.Core.Bool.{Bool, true, false, _||_}
+use mathlib.Core.Bool.{Bool, true, false, _||_, not}
 use mathlib.Core.List.{List}
 use native.Mathlib.Nat.{mul-le-mul-right, le-of-eq}
 use native.Mathlib.Omega.{arith}
-use lib.Dec.{ltb}
+use lib.Dec.{ltb, eqb}
 use lib.ListN.{length, length-take}
 use lib.Ieee.{Float}
 use borrow.Author.Tests.{lt-ltb, le-ltb}
@@ -14,7 +14,7 @@ use Rattle.laws.proofs.First.{row-applies, row-skipped, first-some, first-zero}
 use Rattle.format.specs.Words.{keptNumber}
 use Rattle.metanet.specs.Words.{netOf}
 use Rattle.metanet.proofs.Ready.{CaseAt}
-use Rattle.book.specs.Arrangement.{caseWord, caseSpeed, wordsFor, speedsFor, sizeAt, runCountAt}
+use Rattle.book.specs.Arrangement.{caseWord, caseSpeed, wordsFor, speedsFor, sizeAt, runCountAt, arrangementAt}
 use Rattle.book.specs.Sound.{caseNumberAt, slotNumber, casesNumber, soundNumber}
 use Rattle.book.proofs.Laid.{Laid}
 
@@ -33,18 +33,21 @@ module _ {words : List ℕ} {speeds : List Float} {n : ℕ} (laid : Laid words s
       }
 
   -- ---- the cases
-  pub runs-over : 1000000 < runCountAt words → 12 ≡ casesNumber words speeds
-  unfolding casesNumber
-  runs-over l = sym (row-applies _ _ _ (lt-ltb _ _ l))
+  abbrev pub wordsBad : Bool
+  wordsBad = ltb 1000000 (runCountAt words) || not (eqb (arrangementAt words) 1)
 
-  module _ (runs : runCountAt words ≤ 1000000) where
+  pub words-refused : wordsBad ≡ true → 12 ≡ casesNumber words speeds
+  unfolding casesNumber
+  words-refused e = sym (row-applies _ _ _ e)
+
+  module _ (fine : wordsBad ≡ false) where
     pub live-refused : {r : ℕ} → r ≡ caseNumberAt words speeds 0 → (r ≡ 0 → ⊥) → r ≡ casesNumber words speeds
     unfolding casesNumber
-    live-refused e some = e ∙ sym (row-skipped _ _ _ (le-ltb _ _ runs) ∙ first-some _ _ (λ z. some (e ∙ z)))
+    live-refused e some = e ∙ sym (row-skipped _ _ _ fine ∙ first-some _ _ (λ z. some (e ∙ z)))
 
     pub slots-judged : {r : ℕ} → caseNumberAt words speeds 0 ≡ 0 → r ≡ firstOf (λ k. slotNumber words speeds (k + 1)) 6 → r ≡ casesNumber words speeds
     unfolding casesNumber
-    slots-judged z e = e ∙ sym (row-skipped _ _ _ (le-ltb _ _ runs) ∙ first-zero _ _ z)
+    slots-judged z e = e ∙ sym (row-skipped _ _ _ fine ∙ first-zero _ _ z)
 
 -- ---- the study
 

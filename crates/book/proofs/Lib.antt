@@ -4,6 +4,7 @@ pub mod Example
 pub mod History
 pub mod Judging
 pub mod Laid
+pub mod Made
 pub mod Moved
 pub mod Network
 pub mod Past

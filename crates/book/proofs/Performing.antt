@@ -8,9 +8,10 @@ use borrow.Author.Tests.{not-false}
 use Rattle.laws.proofs.First.{row-applies, row-skipped, row-passed}
 use Rattle.book.specs.Arrangement.{networkAt, runCountAt, caseAt}
 use Rattle.book.specs.Sound.{sound}
-use Rattle.book.specs.Calls.{Call, Answer, refused}
+use Rattle.book.specs.Calls.{Call, isStart}
+use Rattle.book.specs.Question.{refused, Answer}
 use Rattle.book.specs.Refusal.{refusal}
-use Rattle.book.specs.Perform.{Arrays, Outcome, unless, groundsAt, isStart, refusalAt, storedWords, storedSpeeds, answerOf, perform, lent, Performs}
+use Rattle.book.specs.Perform.{Arrays, Outcome, unless, groundsAt, refusalAt, answerOf, perform, lent, Performs, stored}
 
 unless-refused : {S : Type 0} (m : ℕ) (before : S) (after : Outcome S) → (m ≡ 0 → ⊥) → unless m before after ≡ record { state = before; answer = refused m }
 unfolding unless
@@ -38,15 +39,15 @@ module _ (c : Call) (words : List ℕ) (speeds : List Float) where
 
   -- an accepted one stores and answers
   pub accepts : {answer : Answer} {words' : List ℕ} {speeds' : List Float} → refusalAt c a ≡ 0
-      → answer ≡ answerOf c (networkAt words) (caseAt words speeds) (runCountAt words) → words' ≡ storedWords c a → speeds' ≡ storedSpeeds c a
+      → answer ≡ answerOf c (networkAt words) (caseAt words speeds) (runCountAt words) → words' ≡ stored c a .words → speeds' ≡ stored c a .speeds
       → Performs c words speeds answer words' speeds'
   unfolding perform
-  accepts z said stored speeds-many =
+  accepts z said words-are speeds-are =
       let is = unless-accepted (refusalAt c a) a _ z in
       record {
         answers = said ∙ ap (λ (o : Outcome Arrays). o .answer) (sym is);
-        words-are = stored ∙ ap (λ (o : Outcome Arrays). o .state .words) (sym is);
-        speeds-are = speeds-many ∙ ap (λ (o : Outcome Arrays). o .state .speeds) (sym is);
+        words-are = words-are ∙ ap (λ (o : Outcome Arrays). o .state .words) (sym is);
+        speeds-are = speeds-are ∙ ap (λ (o : Outcome Arrays). o .state .speeds) (sym is);
       }
 
   -- 12, of a call that is no Start

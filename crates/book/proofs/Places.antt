@@ -8,7 +8,7 @@ use native.Mathlib.Nat.{suc-mul, mul-le-mul-right}
 use native.Mathlib.Decide.{decLt}
 use native.Mathlib.Omega.{arith}
 use lib.Dec.{eqb}
-use lib.ListN.{length, getD, set}
+use lib.ListN.{length, set}
 use lib.Seq.{getD-set-same, getD-set-other}
 use lib.Ieee.{Float}
 use borrow.Author.Tests.{eqb-true, eqb-false}
@@ -17,10 +17,10 @@ use Rattle.laws.proofs.Outside.{SameOutside, take-same, drop-same, getD-before,
 use Rattle.format.specs.Words.{headIn}
 use Rattle.metanet.specs.Case.{Case}
 use Rattle.metanet.specs.Words.{netOf, caseIn}
-use Rattle.book.specs.Arrangement.{runWord, markWord, caseLength, caseWord, caseSpeed, wordsFor, speedsFor, sizeAt, runCountAt, markAt, caseAt}
-use Rattle.book.specs.Perform.{Arrays}
+use Rattle.book.specs.Arrangement.{runWord, caseLength, caseWord, caseSpeed, wordsFor, speedsFor, sizeAt, caseAt}
+use Rattle.book.specs.Perform.{Arrays, lent}
 use Rattle.metanet.proofs.CaseParts.{case-same}
-use Rattle.book.proofs.Stored.{Stored}
+use Rattle.book.proofs.Stored.{Stored, studyWord, withWord}
 
 -- ---- places
 
@@ -72,69 +72,53 @@ module _ {a z : Arrays} (k : ℕ) (high : k ≤ 6)
       (λ l. omega (arith, gap j k (caseLength n) l)) (λ l. omega (arith, gap k j (caseLength n) l)))
       (part-apart j k (caseSpeed n j) (caseSpeed n k) n v other (gap j k n) (gap k j n))
 
-  pub case-stored : (c : Case) → caseIn (z .words) (z .speeds) (caseWord n k) (caseSpeed n k) n ≡ c → Stored a z k c (runCountAt (a .words)) (markAt (a .words))
+  pub case-stored : (c : Case) → caseIn (z .words) (z .speeds) (caseWord n k) (caseSpeed n k) n ≡ c → Stored a z k c (studyWord (a .words))
   case-stored c is =
       record {
         words-long = w .long;
         speeds-long = v .long;
         net = net-same;
-        runs-are = getD-before w runWord 0 (omega arith);
-        marks-are = λ j l h. getD-before w (markWord j) 0 (omega arith);
+        words-are = λ j l. getD-before w (runWord + j) 0 (omega arith);
         written = case-sized (a .words) (z .words) (z .speeds) k net-same ∙ is;
         others = other-same;
         words-past = λ m h. drop-same w (wordsFor m) (omega (arith, word-room n k high));
         speeds-past = λ m h. drop-same v (speedsFor m) (omega (arith, speed-room n k high));
       }
 
--- ---- a store to a word between the network and the cases
+-- ---- a store to word i of the 16 between the network and the cases
 
-module _ {a z : Arrays} {k : ℕ} {c : Case} {runs : ℕ} {mark : ℕ → ℕ} (s : Stored a z k c runs mark) (long : 2576 ≤ length (a .words)) where
-  abbrev withWord : ℕ → ℕ → Arrays
-  withWord i x = record { words = set (z .words) i x; speeds = z .speeds }
+module _ {a z : Arrays} {k : ℕ} {c : Case} {word : ℕ → ℕ} (s : Stored a z k c word) (long : 2576 ≤ length (a .words)) (i x : ℕ) (high : i < 16) where
+  abbrev new : List ℕ
+  new = set (z .words) (runWord + i) x
 
-  module _ (i x : ℕ) (low : 2560 ≤ i) (high : i < 2576) where
-    abbrev new : List ℕ
-    new = set (z .words) i x
+  abbrev same : SameOutside (runWord + i) (runWord + i + 1) (z .words) new
+  same = set-same (z .words) (runWord + i) x
 
-    word-net : netOf new ≡ netOf (z .words)
-    word-net = take-same (set-same (z .words) i x) 2560 low
+  word-net : netOf new ≡ netOf (z .words)
+  word-net = take-same same 2560 (omega arith)
 
-    word-case : (j : ℕ) → caseAt new (z .speeds) j ≡ caseAt (z .words) (z .speeds) j
-    word-case j =
-        let n = sizeAt (z .words) in
-        case-sized (z .words) new (z .speeds) j word-net
-        ∙ case-same new (z .words) (z .speeds) (z .speeds) (caseWord n j) (caseWord n j) (caseSpeed n j) (caseSpeed n j) n
-        (part-after (set-same (z .words) i x) (caseWord n j) (caseLength n) (omega arith)) refl
+  word-case : (j : ℕ) → caseAt new (z .speeds) j ≡ caseAt (z .words) (z .speeds) j
+  word-case j =
+      let n = sizeAt (z .words) in
+      case-sized (z .words) new (z .speeds) j word-net
+      ∙ case-same new (z .words) (z .speeds) (z .speeds) (caseWord n j) (caseWord n j) (caseSpeed n j) (caseSpeed n j) n
+      (part-after same (caseWord n j) (caseLength n) (omega arith)) refl
 
-    word-stored : (runs' : ℕ) (mark' : ℕ → ℕ) → getD new runWord 0 ≡ runs' → ((j : ℕ) → 1 ≤ j → j ≤ 6 → getD new (markWord j) 0 ≡ mark' j)
-        → Stored a (withWord i x) k c runs' mark'
-    word-stored runs' mark' r m =
-        record {
-          words-long = set-same (z .words) i x .long ∙ s .words-long;
-          speeds-long = s .speeds-long;
-          net = word-net ∙ s .net;
-          runs-are = r;
-          marks-are = m;
-          written = word-case k ∙ s .written;
-          others = λ j h other. word-case j ∙ s .others j h other;
-          words-past = λ m h. drop-same (set-same (z .words) i x) (wordsFor m) (omega arith) ∙ s .words-past m h;
-          speeds-past = s .speeds-past;
-        }
+  word-is : (j : ℕ) → j < 16 → (t : Bool) → eqb j i ≡ t → studyWord new j ≡ cond t x (word j)
+  word-is j l true e =
+      ap (studyWord new) (eqb-true j i e) ∙ getD-set-same (z .words) (runWord + i) x 0 (omega (arith, s .words-long))
+  word-is j l false e =
+      getD-set-other (z .words) (runWord + i) (runWord + j) x 0 (λ q. eqb-false j i e (omega (arith, q))) ∙ s .words-are j l
 
-  pub run-stored : (x : ℕ) → Stored a (withWord runWord x) k c x mark
-  run-stored x =
-      word-stored runWord x (omega arith) (omega arith) x mark
-      (getD-set-same (z .words) runWord x 0 (omega (arith, s .words-long)))
-      (λ j l h. getD-set-other (z .words) runWord (markWord j) x 0 (λ e. omega (arith, e)) ∙ s .marks-are j l h)
-
-  pub mark-stored : (i x : ℕ) → 1 ≤ i → i ≤ 6 → Stored a (withWord (markWord i) x) k c runs (λ j. cond (eqb j i) x (mark j))
-  mark-stored i x l h =
-      word-stored (markWord i) x (omega arith) (omega arith) runs (λ j. cond (eqb j i) x (mark j))
-      (getD-set-other (z .words) (markWord i) runWord x 0 (λ e. omega (arith, e)) ∙ s .runs-are) each
-    where
-      each : (j : ℕ) → 1 ≤ j → j ≤ 6 → getD (set (z .words) (markWord i) x) (markWord j) 0 ≡ cond (eqb j i) x (mark j)
-      each j low high = go (eqb j i) refl
-        where
-          go : (b : Bool) → eqb j i ≡ b → getD (set (z .words) (markWord i) x) (markWord j) 0 ≡ cond b x (mark j)
-          go true e = ap (λ (m : ℕ). getD (set (z .words) (markWord i) x) (markWord m) 0) (eqb-true j i e) ∙ getD-set-same (z .words) (markWord i) x 0 (omega (arith, s .words-long))
-          go false e = getD-set-other (z .words) (markWord i) (markWord j) x 0 (λ q. eqb-false j i e (omega (arith, q))) ∙ s .marks-are j low high
+  pub word-stored : Stored a (lent new (z .speeds)) k c (withWord word i x)
+  word-stored =
+      record {
+        words-long = same .long ∙ s .words-long;
+        speeds-long = s .speeds-long;
+        net = word-net ∙ s .net;
+        words-are = λ j l. word-is j l (eqb j i) refl;
+        written = word-case k ∙ s .written;
+        others = λ j h other. word-case j ∙ s .others j h other;
+        words-past = λ m h. drop-same same (wordsFor m) (omega arith) ∙ s .words-past m h;
+        speeds-past = s .speeds-past;
+      }

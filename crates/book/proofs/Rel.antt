@@ -5,7 +5,7 @@ use mathlib.Core.Option.{Option, none, some}
 use lib.ListN.{length}
 use Rattle.format.specs.Words.{keptNumber}
 use Rattle.metanet.specs.Words.{netOf}
-use Rattle.book.specs.Arrangement.{wordsFor, speedsFor, networkAt, runCountAt, markAt, caseAt}
+use Rattle.book.specs.Arrangement.{wordsFor, speedsFor, networkAt, runCountAt, markAt, caseAt, arrangementAt, arrangement}
 use Rattle.book.specs.Perform.{Arrays}
 use Rattle.metanet.specs.Line.{Line, caseOf}
 use Rattle.book.specs.Book.{Book}
@@ -30,6 +30,7 @@ pub record Rel (words speeds : ℕ) (a : Arrays) (b : Book) : Type 0 where
   pub network : networkAt (a .words) ≡ b .network
   pub runs : runCountAt (a .words) ≡ b .runs
   pub runs-le : b .runs ≤ 1000000
+  pub arranged : arrangementAt (a .words) ≡ arrangement
   pub live : Kept a b 0 (b .live)
   pub slots : (k : ℕ) (l : Line) → b .slot k ≡ some l → Kept a b k l
   pub slot-number : (k : ℕ) (l : Line) → b .slot k ≡ some l → (1 ≤ k) × (k ≤ 6)

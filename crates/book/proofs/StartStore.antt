@@ -4,7 +4,7 @@ use mathlib.Core.Path.{_≡_, refl, sym, ap, _∙_}
 use mathlib.Core.List.{List, [], _∷_, _++_, append-assoc}
 use native.Mathlib.Nat.{zero-mul}
 use native.Mathlib.Omega.{arith}
-use lib.ListN.{length, drop, getD, replicate, length-append, length-drop, length-replicate, getD-replicate, List·getD-append}
+use lib.ListN.{length, drop, getD, length-append, length-drop, List·getD-append}
 use lib.Seq.{take-at, drop-at, getD-drop}
 use Rattle.laws.specs.Lists.{parts}
 use Rattle.laws.proofs.Lists.{length-table, length-parts}
@@ -19,11 +19,11 @@ use Rattle.metanet.specs.Case.{Case, stateOf}
 use Rattle.metanet.specs.Words.{netOf, caseIn, stateWords, caseWords, caseSpeeds}
 use Rattle.metanet.proofs.StateWords.{length-state}
 use Rattle.metanet.proofs.Coded.{case-coded}
-use Rattle.book.specs.Arrangement.{caseLength, caseWord, caseSpeed, wordsFor, speedsFor, sizeAt, caseAt}
+use Rattle.book.specs.Arrangement.{caseLength, caseWord, caseSpeed, wordsFor, speedsFor, sizeAt, caseAt, startMarks}
 use Rattle.book.specs.Calls.{start}
 use Rattle.metanet.specs.Start.{startState, startCase}
-use Rattle.book.specs.Perform.{Arrays, startWords, startSpeeds, storedWords, storedSpeeds}
-use Rattle.book.proofs.Stored.{stored, Begun}
+use Rattle.book.specs.Perform.{Arrays, startWords, startSpeeds, stored}
+use Rattle.book.proofs.Stored.{Begun, studyWord}
 
 -- ---- how many words and speeds a case of n segments has
 
@@ -36,6 +36,10 @@ length-coded n c =
 length-speeds : (n : ℕ) (c : Case) → length (caseSpeeds n c) ≡ n
 unfolding caseSpeeds
 length-speeds n c = length-table (λ i. stateOf (c .states) i .speed) n
+
+marks-many : length startMarks ≡ 16
+unfolding startMarks
+marks-many = refl
 
 -- ---- the arrays with the network w and the case c
 
@@ -50,25 +54,25 @@ module _ (a : Arrays) (w : Network) (c : Case) (many : length (c .states) ≡ w 
 
   -- the words before the live case, and those after it
   abbrev front : List ℕ
-  front = keptWords w ++ replicate 16 0
+  front = keptWords w ++ startMarks
 
   abbrev rest : List ℕ
   rest = drop (caseWord n 1) (a .words)
 
   front-long : length front ≡ 2576
-  front-long = simp (length-append, length-replicate) (omega (arith, wide))
+  front-long = simp length-append (omega (arith, wide, marks-many))
 
   words-are : z .words ≡ front ++ (caseWords n c ++ rest)
   unfolding startWords
   words-are = simp append-assoc
 
   head-long : length (front ++ caseWords n c) ≡ caseWord n 1
-  head-long = simp (length-append, length-replicate) (omega (arith, wide, length-coded n c))
+  head-long = simp length-append (omega (arith, wide, marks-many, length-coded n c))
 
   words-same : SameOutside 0 (caseWord n 1) (a .words) (z .words)
   words-same =
       record {
-        long = ap length words-are ∙ simp (length-append, length-replicate, length-drop) (omega (arith, wide, length-coded n c));
+        long = ap length words-are ∙ simp (length-append, length-drop) (omega (arith, wide, marks-many, length-coded n c));
         before = refl;
         after = ap (drop (caseWord n 1)) (words-are ∙ sym (append-assoc front (caseWords n c) rest)) ∙ drop-at (front ++ caseWords n c) rest (caseWord n 1) head-long;
       }
@@ -84,16 +88,15 @@ module _ (a : Arrays) (w : Network) (c : Case) (many : length (c .states) ≡ w 
 
   net-is : netOf (z .words) ≡ keptWords w
   unfolding startWords
-  net-is = take-at (keptWords w) (replicate 16 0 ++ (caseWords n c ++ rest)) 2560 wide
+  net-is = take-at (keptWords w) (startMarks ++ (caseWords n c ++ rest)) 2560 wide
 
   -- the words after the network
-  word-zero : (i : ℕ) → i < 16 → getD (z .words) (2560 + i) 0 ≡ 0
+  word-is : (j : ℕ) → j < 16 → studyWord (z .words) j ≡ getD startMarks j 0
   unfolding startWords
-  word-zero i l =
-      sym (getD-drop 2560 (z .words) i 0)
-      ∙ ap (λ (m : List ℕ). getD m i 0) (drop-at (keptWords w) (replicate 16 0 ++ (caseWords n c ++ rest)) 2560 wide)
-      ∙ List·getD-append (replicate 16 0) (caseWords n c ++ rest) 0 i l
-      ∙ getD-replicate 16 i 0 0 l
+  word-is j l =
+      sym (getD-drop 2560 (z .words) j 0)
+      ∙ ap (λ (m : List ℕ). getD m j 0) (drop-at (keptWords w) (startMarks ++ (caseWords n c ++ rest)) 2560 wide)
+      ∙ List·getD-append startMarks (caseWords n c ++ rest) 0 j (rw marks-many l)
 
   size-is : sizeAt (z .words) ≡ n
   unfolding networkFrom
@@ -113,8 +116,7 @@ module _ (a : Arrays) (w : Network) (c : Case) (many : length (c .states) ≡ w 
         speeds-long = speeds-same .long;
         kept = ap keptNumber net-is ∙ accepted;
         network = ap networkIn net-is ∙ back;
-        runs-are = word-zero 0 (omega arith);
-        marks-are = λ j l h. word-zero j (omega arith);
+        words-are = word-is;
         live = live-is;
         words-past = λ m h. drop-same words-same (wordsFor m) (omega arith);
         speeds-past = λ m h. drop-same speeds-same (speedsFor m) (omega arith);
@@ -137,5 +139,5 @@ module _ (a : Arrays) (file mvs speeds queues : List ℕ) (ok : fileNumber file 
   states-many = length-table (startState brought mvs speeds queues) (brought .head .size)
 
   pub start-stored : Begun a (stored (start file mvs speeds queues) a) (networkOf file) (startCase (networkOf file) mvs speeds queues)
-  unfolding storedWords storedSpeeds
+  unfolding stored
   start-stored = begun a brought (startCase brought mvs speeds queues) states-many long (kept-file file ok) (kept-network file ok) words-fit speeds-fit

@@ -16,13 +16,12 @@ use Rattle.metanet.specs.Words.{stateIn, caseIn, signedWords, meteredWords}
 use Rattle.metanet.proofs.StateWords.{state-take, length-signed, length-metered, state-signed, state-metered}
 use Rattle.metanet.proofs.SoundLaws.{state-read}
 use Rattle.metanet.specs.declared.Setting.{Setting}
-use Rattle.book.specs.Arrangement.{caseLength, caseWord, caseSpeed, networkAt, sizeAt, runCountAt, markAt, caseAt}
-use Rattle.book.specs.Calls.{sign, meter}
+use Rattle.book.specs.Arrangement.{caseLength, caseWord, caseSpeed, networkAt, sizeAt, caseAt}
 use Rattle.metanet.specs.Change.{signedState, meteredState, withState}
-use Rattle.book.specs.Perform.{Arrays, stateWord, storedWords, storedSpeeds}
+use Rattle.book.specs.Perform.{Arrays, stateWord, changed}
 use Rattle.metanet.specs.Line.{signed, metered, change}
 use Rattle.metanet.proofs.CaseParts.{state-put, state-put-same}
-use Rattle.book.proofs.Stored.{stored, Fit, Stored}
+use Rattle.book.proofs.Stored.{Fit, Stored, studyWord}
 use Rattle.book.proofs.Places.{case-stored}
 
 -- ---- state i of the live case, counted from 1, with the words that change gives
@@ -54,13 +53,13 @@ module _ (a : Arrays) (fit : Fit a) (i : ℕ) (low : 1 ≤ i) (high : i ≤ size
     abbrev caseFrom : ℕ → Case
     caseFrom at = caseIn (a .words) (a .speeds) at (caseSpeed n 0) n
 
-    abbrev changed : ℕ → Case
-    changed at = withState (caseFrom at) (i - 1) (f (stateOf (caseFrom at .states) (i - 1)))
+    abbrev caseChanged : ℕ → Case
+    caseChanged at = withState (caseFrom at) (i - 1) (f (stateOf (caseFrom at .states) (i - 1)))
 
     state-is : (v : Float) → stateIn ys v ≡ f (stateIn (drop (stateWord i) (a .words)) v)
     state-is v = is v ∙ ap f (state-take (drop (stateWord i) (a .words)) v)
 
-    live-is : caseIn (new .words) (a .speeds) 2576 (caseSpeed n 0) n ≡ changed 2576
+    live-is : caseIn (new .words) (a .speeds) 2576 (caseSpeed n 0) n ≡ caseChanged 2576
     unfolding caseIn
     live-is =
         state-put (a .words) (a .speeds) 2576 (caseSpeed n 0) n (i - 1) ys within many room
@@ -68,28 +67,28 @@ module _ (a : Arrays) (fit : Fit a) (i : ℕ) (low : 1 ≤ i) (high : i ≤ size
         (state-is (getD (a .speeds) (caseSpeed n 0 + (i - 1)) nan)
         ∙ ap f (sym (state-read (a .words) (a .speeds) 2576 (caseSpeed n 0) n (i - 1) within)))
 
-    state-stored : Stored a new 0 (changed (caseWord n 0)) (runCountAt (a .words)) (markAt (a .words))
+    state-stored : Stored a new 0 (caseChanged (caseWord n 0)) (studyWord (a .words))
     state-stored =
         let first : 2576 ≡ caseWord n 0 = omega arith in
         case-stored 0 (omega arith)
         (same-within (state-put-same (a .words) (a .speeds) 2576 (caseSpeed n 0) n (i - 1) ys within many room)
         (caseWord n 0) (caseWord n 0 + caseLength n) (omega arith) (omega arith))
         (same-all (caseSpeed n 0) (caseSpeed n 0 + n) (a .speeds))
-        (changed (caseWord n 0))
-        (subst (λ (at : ℕ). caseIn (new .words) (a .speeds) at (caseSpeed n 0) n ≡ changed at) first live-is)
+        (caseChanged (caseWord n 0))
+        (subst (λ (at : ℕ). caseIn (new .words) (a .speeds) at (caseSpeed n 0) n ≡ caseChanged at) first live-is)
 
   pub sign-stored : (limit : ℕ) (compliance : ℤ)
-      → Stored a (stored (sign i limit compliance) a) 0 (change (networkAt (a .words)) (caseAt (a .words) (a .speeds) 0) (signed i limit compliance))
-      (runCountAt (a .words)) (markAt (a .words))
-  unfolding storedWords storedSpeeds change
+      → Stored a (changed (signed i limit compliance) a) 0 (change (networkAt (a .words)) (caseAt (a .words) (a .speeds) 0) (signed i limit compliance))
+      (studyWord (a .words))
+  unfolding changed change
   sign-stored limit compliance =
       state-stored (signedWords limit compliance old) (signedState limit compliance) (length-signed limit compliance old ∙ old-many)
       (λ v. state-signed old v old-many limit compliance)
 
   pub meter-stored : (setting : Setting)
-      → Stored a (stored (meter i setting) a) 0 (change (networkAt (a .words)) (caseAt (a .words) (a .speeds) 0) (metered i setting))
-      (runCountAt (a .words)) (markAt (a .words))
-  unfolding storedWords storedSpeeds change
+      → Stored a (changed (metered i setting) a) 0 (change (networkAt (a .words)) (caseAt (a .words) (a .speeds) 0) (metered i setting))
+      (studyWord (a .words))
+  unfolding changed change
   meter-stored setting =
       let q = segmentOf (networkAt (a .words)) (i - 1) .most in
       state-stored (meteredWords q setting old) (meteredState q setting) (length-metered q setting old ∙ old-many)

@@ -15,12 +15,11 @@ use Rattle.metanet.specs.Words.{statesIn, newWords, newSpeeds, stepWords, total
 use Rattle.metanet.proofs.Ready.{Ready, TotalsOk}
 use Rattle.metanet.proofs.Turns.{words-each, speeds-each, speeds-room}
 use Rattle.metanet.proofs.OneStep.{steps-the-case}
-use Rattle.book.specs.Arrangement.{caseLength, caseWord, caseSpeed, networkAt, sizeAt, runCountAt, markAt, caseAt}
-use Rattle.book.specs.Calls.{step}
-use Rattle.book.specs.Perform.{Arrays, storedWords, storedSpeeds}
+use Rattle.book.specs.Arrangement.{caseLength, caseWord, caseSpeed, networkAt, sizeAt, runCountAt, caseAt}
+use Rattle.book.specs.Perform.{Arrays, changed}
 use Rattle.metanet.specs.Line.{stepped, change}
-use Rattle.book.proofs.Stored.{stored, Fit, Stored}
-use Rattle.book.proofs.Places.{case-stored, run-stored}
+use Rattle.book.proofs.Stored.{Fit, Stored, withWord, studyWord}
+use Rattle.book.proofs.Places.{case-stored, word-stored}
 
 -- ---- a step of the case at at and from leaves all other words and speeds
 
@@ -68,12 +67,12 @@ module _ (a : Arrays) (fit : Fit a) (ds : List ℕ)
   abbrev n : ℕ
   n = sizeAt (a .words)
 
-  pub step-stored : Stored a (stored (step ds) a) 0 (change (networkAt (a .words)) (caseAt (a .words) (a .speeds) 0) (stepped ds))
-      (runCountAt (a .words) + 1) (markAt (a .words))
-  unfolding storedWords storedSpeeds change
+  pub step-stored : Stored a (changed (stepped ds) a) 0 (change (networkAt (a .words)) (caseAt (a .words) (a .speeds) 0) (stepped ds))
+      (withWord (studyWord (a .words)) 0 (runCountAt (a .words) + 1))
+  unfolding changed change
   step-stored =
-      run-stored
+      word-stored
       (case-stored 0 (omega arith) (step-words-same ok tot) (step-speeds-same ok tot)
       (change (networkAt (a .words)) (caseAt (a .words) (a .speeds) 0) (stepped ds))
       (steps-the-case (a .words) (a .speeds) ds (caseWord n 0) (caseSpeed n 0) n ok tot))
-      (omega (arith, fit .words-fit)) (runCountAt (a .words) + 1)
+      (omega (arith, fit .words-fit)) 0 (runCountAt (a .words) + 1) (omega arith)

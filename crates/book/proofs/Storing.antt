@@ -1,14 +1,13 @@
 -- What each accepted call stores: arrays that held the book then hold what the book enters.
 use Prim.Native.Nat.{ℕ, zero, suc, _+_, _≤_, _<_}
 use mathlib.Core.Path.{_≡_, sym, _∙_, subst}
-use mathlib.Core.Bool.{false, cond, _||_}
+use mathlib.Core.Bool.{false, _||_, true}
 use mathlib.Core.List.{List, [], _∷_, _++_}
 use mathlib.Core.Option.{none, some}
 use native.Mathlib.Omega.{arith}
-use lib.Dec.{ltb, eqb}
-use lib.IntN.{ℤ}
-use lib.ListN.{length}
-use borrow.Author.Tests.{ltb-false, leb-false, not-false}
+use lib.Dec.{ltb}
+use lib.ListN.{length, List·getD-append, replicate, getD-replicate}
+use borrow.Author.Tests.{ltb-false, leb-false, not-false, ne-eqb}
 use Rattle.laws.specs.First.{outside}
 use Rattle.laws.proofs.First.{row-passed, row-later, first-zero-left, first-zero-right}
 use Rattle.laws.proofs.Tests.{or-left, or-right, inside-low, inside-high}
@@ -16,20 +15,18 @@ use Rattle.format.specs.Network.{Network}
 use Rattle.format.specs.File.{fileNumber, networkOf}
 use Rattle.metanet.proofs.Ready.{CaseAt}
 use Rattle.metanet.proofs.SoundLaws.{case-ready, case-total}
-use Rattle.metanet.specs.declared.Setting.{Setting}
-use Rattle.book.specs.Arrangement.{caseWord, caseSpeed, wordsFor, speedsFor, networkAt, sizeAt, runCountAt, markAt, caseAt}
-use Rattle.book.specs.Calls.{start, sign, meter, step, hold, recall, dropSlot}
+use Rattle.book.specs.Arrangement.{caseWord, caseSpeed, wordsFor, speedsFor, networkAt, sizeAt, runCountAt, caseAt, startMarks}
+use Rattle.book.specs.Calls.{start, hold, recall, dropSlot, item}
 use Rattle.metanet.specs.Start.{startCase, startNumber}
-use Rattle.book.specs.Refusal.{Grounds, refusal}
-use Rattle.book.specs.Perform.{Arrays}
-use Rattle.metanet.specs.Line.{Item, metered, stepped, Line, change, caseOf, stepsOf}
-use Rattle.metanet.specs.Line.{signed}
-use Rattle.book.specs.Book.{Book, started, entered, groundsIn}
+use Rattle.book.specs.Refusal.{Grounds, refusal, itemNumber, slotRefusal}
+use Rattle.book.specs.Perform.{Arrays, stored, changed}
+use Rattle.metanet.specs.Line.{Item, metered, stepped, Line, change, caseOf, stepsOf, itemSteps, signed}
+use Rattle.book.specs.Book.{Book, started, entered, groundsIn, isFilled}
 use Rattle.book.proofs.Judging.{placed}
 use Rattle.book.proofs.Sounds.{laid, live-sound}
 use Rattle.book.proofs.Rel.{Kept, Rel}
 use Rattle.book.proofs.Views.{filled-some, size-view, step-view, sound-view}
-use Rattle.book.proofs.Stored.{stored, Stored, Begun}
+use Rattle.book.proofs.Stored.{Stored, Begun, withWord, studyWord}
 use Rattle.book.proofs.StateStores.{sign-stored, meter-stored}
 use Rattle.book.proofs.SlotStores.{hold-stored, recall-stored, drop-stored}
 use Rattle.book.proofs.StepStore.{step-stored}
@@ -39,6 +36,8 @@ use Rattle.metanet.proofs.LineStates.{good-sign, good-meter}
 use Rattle.metanet.proofs.LineStep.{good-step}
 use Rattle.metanet.proofs.LineStart.{good-start}
 use Rattle.book.proofs.Moved.{some-inj, none-some, fit, live-rel, slot-rel}
+use Rattle.metanet.specs.Case.{Case}
+use Rattle.metanet.proofs.Good.{Good}
 
 -- ---- the store of each call that the book does not refuse
 
@@ -55,56 +54,53 @@ module _ {words speeds : ℕ} {a : Arrays} {b : Book} (r : Rel words speeds a b)
     segment-high : i ≤ sizeAt (a .words)
     segment-high = rw (size-view r) (inside-high 1 i (b .network .head .size) there)
 
-  module _ (i limit : ℕ) (compliance : ℤ) (e : refusal (sign i limit compliance) (groundsIn words speeds b) ≡ 0) where
-    pub sign-store : Stored a (stored (sign i limit compliance) a) 0
-        (change (networkAt (a .words)) (caseAt (a .words) (a .speeds) 0) (signed i limit compliance)) (runCountAt (a .words)) (markAt (a .words))
-    unfolding refusal
-    sign-store =
-        let there = row-passed _ _ _ e in
-        sign-stored a (fit r) i (segment-low i there) (segment-high i there) limit compliance
+  live-place : CaseAt (a .words) (a .speeds) (caseWord (sizeAt (a .words)) 0) (caseSpeed (sizeAt (a .words)) 0) (sizeAt (a .words))
+  live-place = placed (laid (a .words) (a .speeds) (sound-view r)) 0 (omega arith)
 
-    pub sign-rel : Rel words speeds (stored (sign i limit compliance) a) (entered (sign i limit compliance) b)
-    unfolding refusal entered
-    sign-rel =
-        live-rel r sign-store (b .live ++ (signed i limit compliance ∷ [])) (b .runs + 0)
-        (good-sign (r .live .good) i (row-passed _ _ _ e) limit compliance (row-passed _ _ _ (row-later _ _ _ e)))
-        (item-case (signed i limit compliance)) (omega (arith, r .runs)) (omega (arith, r .runs-le))
+  -- a store that leaves all 16 words, as one that leaves the run count x
+  runs-stay : {z : Arrays} {c : Case} (x : ℕ) → runCountAt (a .words) ≡ x → Stored a z 0 c (studyWord (a .words))
+      → Stored a z 0 c (withWord (studyWord (a .words)) 0 x)
+  runs-stay {z} {c} x e s = subst (λ (word : ℕ → ℕ). Stored a z 0 c word) (λ i j. same j i) s
+    where
+      same : (j : ℕ) → studyWord (a .words) j ≡ withWord (studyWord (a .words)) 0 x j
+      same zero = e
+      same (suc j) = rw (ne-eqb (suc j) 0 (λ q. omega (arith, q)))
 
-  module _ (i : ℕ) (setting : Setting) (e : refusal (meter i setting) (groundsIn words speeds b) ≡ 0) where
-    pub meter-store : Stored a (stored (meter i setting) a) 0
-        (change (networkAt (a .words)) (caseAt (a .words) (a .speeds) 0) (metered i setting)) (runCountAt (a .words)) (markAt (a .words))
-    unfolding refusal
-    meter-store =
-        let there = row-passed _ _ _ e in
-        meter-stored a (fit r) i (segment-low i there) (segment-high i there) setting
+  pub item-store : (i : Item) → itemNumber i (groundsIn words speeds b) ≡ 0
+      → Stored a (changed i a) 0 (change (networkAt (a .words)) (caseAt (a .words) (a .speeds) 0) i) (withWord (studyWord (a .words)) 0 (b .runs + itemSteps i))
+  unfolding itemNumber
+  item-store (signed i limit compliance) e =
+      let there = row-passed _ _ _ e in
+      runs-stay (b .runs + 0) (omega (arith, r .runs)) (sign-stored a (fit r) i (segment-low i there) (segment-high i there) limit compliance)
+  item-store (metered i setting) e =
+      let there = row-passed _ _ _ e in
+      runs-stay (b .runs + 0) (omega (arith, r .runs)) (meter-stored a (fit r) i (segment-low i there) (segment-high i there) setting)
+  item-store (stepped ds) e =
+      let sound = live-sound (a .words) (a .speeds) (sound-view r) in
+      let q = step-view r (stepsOf (b .live)) ds ∙ first-zero-left _ _ e in
+      rw (r .runs) at (step-stored a (fit r) ds (case-ready live-place sound (stepsOf (b .live)) ds q) (case-total live-place sound))
 
-    pub meter-rel : Rel words speeds (stored (meter i setting) a) (entered (meter i setting) b)
-    unfolding refusal entered
-    meter-rel =
-        let later = row-later _ _ _ e in
-        live-rel r meter-store (b .live ++ (metered i setting ∷ [])) (b .runs + 0)
-        (good-meter (r .live .good) i (row-passed _ _ _ e) setting (row-passed _ _ _ later) (row-passed _ _ _ (row-later _ _ _ later)))
-        (item-case (metered i setting)) (omega (arith, r .runs)) (omega (arith, r .runs-le))
+  item-good : (i : Item) → itemNumber i (groundsIn words speeds b) ≡ 0 → Good (b .network) (b .begun) (b .live ++ (i ∷ []))
+  unfolding itemNumber
+  item-good (signed i limit compliance) e =
+      good-sign (r .live .good) i (row-passed _ _ _ e) limit compliance (row-passed _ _ _ (row-later _ _ _ e))
+  item-good (metered i setting) e =
+      let later = row-later _ _ _ e in
+      good-meter (r .live .good) i (row-passed _ _ _ e) setting (row-passed _ _ _ later) (row-passed _ _ _ (row-later _ _ _ later))
+  item-good (stepped ds) e = good-step (r .live .good) ds (first-zero-left _ _ e)
 
-  module _ (ds : List ℕ) (e : refusal (step ds) (groundsIn words speeds b) ≡ 0) where
-    live-place : CaseAt (a .words) (a .speeds) (caseWord (sizeAt (a .words)) 0) (caseSpeed (sizeAt (a .words)) 0) (sizeAt (a .words))
-    live-place = placed (laid (a .words) (a .speeds) (sound-view r)) 0 (omega arith)
+  item-runs : (i : Item) → itemNumber i (groundsIn words speeds b) ≡ 0 → b .runs + itemSteps i ≤ 1000000
+  unfolding itemNumber
+  item-runs (signed i limit compliance) e = omega (arith, r .runs-le)
+  item-runs (metered i setting) e = omega (arith, r .runs-le)
+  item-runs (stepped ds) e =
+      let few : b .runs < 1000000 = leb-false _ _ (row-passed _ _ _ (first-zero-right _ _ e)) in
+      omega (arith, few)
 
-    pub step-store : Stored a (stored (step ds) a) 0
-        (change (networkAt (a .words)) (caseAt (a .words) (a .speeds) 0) (stepped ds)) (runCountAt (a .words) + 1) (markAt (a .words))
-    unfolding refusal
-    step-store =
-        let sound = live-sound (a .words) (a .speeds) (sound-view r) in
-        let q = step-view r (stepsOf (b .live)) ds ∙ first-zero-left _ _ e in
-        step-stored a (fit r) ds (case-ready live-place sound (stepsOf (b .live)) ds q) (case-total live-place sound)
-
-    pub step-rel : Rel words speeds (stored (step ds) a) (entered (step ds) b)
-    unfolding refusal entered
-    step-rel =
-        let few : b .runs < 1000000 = leb-false _ _ (row-passed _ _ _ (first-zero-right _ _ e)) in
-        live-rel r step-store (b .live ++ (stepped ds ∷ [])) (b .runs + 1)
-        (good-step (r .live .good) ds (first-zero-left _ _ e))
-        (item-case (stepped ds)) (omega (arith, r .runs)) (omega (arith, few))
+  pub item-rel : (i : Item) → itemNumber i (groundsIn words speeds b) ≡ 0 → Rel words speeds (changed i a) (entered (item i) b)
+  unfolding entered
+  item-rel i e =
+      live-rel r (b .runs + itemSteps i) (item-store i e) (b .live ++ (i ∷ [])) (item-good i e) (item-case i) (item-runs i e)
 
   module _ (k : ℕ) (there : outside 1 k 6 ≡ false) where
     low : 1 ≤ k
@@ -114,8 +110,7 @@ module _ {words speeds : ℕ} {a : Arrays} {b : Book} (r : Rel words speeds a b)
     high = inside-high 1 k 6 there
 
   module _ (k : ℕ) (e : refusal (hold k) (groundsIn words speeds b) ≡ 0) where
-    pub hold-store : Stored a (stored (hold k) a) k (caseAt (a .words) (a .speeds) 0)
-        (runCountAt (a .words)) (λ j. cond (eqb j k) 1 (markAt (a .words) j))
+    pub hold-store : Stored a (stored (hold k) a) k (caseAt (a .words) (a .speeds) 0) (withWord (studyWord (a .words)) k 1)
     unfolding refusal
     hold-store = let there = row-passed _ _ _ e in hold-stored a (fit r) k (low k there) (high k there)
 
@@ -127,34 +122,37 @@ module _ {words speeds : ℕ} {a : Arrays} {b : Book} (r : Rel words speeds a b)
         (λ l f. subst (λ (m : Line). Kept (stored (hold k) a) (entered (hold k) b) k m) (some-inj (b .live) l f)
         (record { good = r .live .good; is = hold-store .written ∙ r .live .is }))
 
-  module _ (k : ℕ) (e : refusal (recall k) (groundsIn words speeds b) ≡ 0) where
-    pub recall-store : Stored a (stored (recall k) a) 0 (caseAt (a .words) (a .speeds) k) (runCountAt (a .words)) (markAt (a .words))
-    unfolding refusal
-    recall-store = let there = row-passed _ _ _ e in recall-stored a (fit r) k (low k there) (high k there)
+  -- Recall and Drop are accepted of a filled slot
+  module _ (k : ℕ) (e : slotRefusal k (groundsIn words speeds b) ≡ 0) where
+    there : outside 1 k 6 ≡ false
+    unfolding slotRefusal
+    there = row-passed _ _ _ e
+
+    is-filled : isFilled (b .slot k) ≡ true
+    unfolding slotRefusal
+    is-filled = not-false _ (row-passed _ _ _ (row-later _ _ _ e))
+
+    pub recall-store : Stored a (stored (recall k) a) 0 (caseAt (a .words) (a .speeds) k) (studyWord (a .words))
+    recall-store = recall-stored a (fit r) k (low k there) (high k there)
 
     pub recall-rel : Rel words speeds (stored (recall k) a) (entered (recall k) b)
-    unfolding refusal entered
+    unfolding entered
     recall-rel =
-        let p : (l : Line) × (b .slot k ≡ some l) = filled-some (b .slot k) (not-false _ (row-passed _ _ _ (row-later _ _ _ e))) in
+        let p : (l : Line) × (b .slot k ≡ some l) = filled-some (b .slot k) is-filled in
         let K : Kept a b k (p .0) = r .slots k (p .0) (p .1) in
-        rw (p .1) (live-rel r recall-store (p .0) (b .runs) (K .good) (K .is) (r .runs) (r .runs-le))
+        rw (p .1) (live-rel r (b .runs) (runs-stay (b .runs) (r .runs) recall-store) (p .0) (K .good) (K .is) (r .runs-le))
 
-  module _ (k : ℕ) (e : refusal (dropSlot k) (groundsIn words speeds b) ≡ 0) where
-    pub drop-store : Stored a (stored (dropSlot k) a) 0 (caseAt (a .words) (a .speeds) 0)
-        (runCountAt (a .words)) (λ j. cond (eqb j k) 0 (markAt (a .words) j))
-    unfolding refusal
-    drop-store = let there = row-passed _ _ _ e in drop-stored a (fit r) k (low k there) (high k there)
+    pub drop-store : Stored a (stored (dropSlot k) a) 0 (caseAt (a .words) (a .speeds) 0) (withWord (studyWord (a .words)) k 0)
+    drop-store = drop-stored a (fit r) k (low k there) (high k there)
 
-    all-stay : (z : Arrays) → Stored a z 0 (caseAt (a .words) (a .speeds) 0) (runCountAt (a .words)) (λ j. cond (eqb j k) 0 (markAt (a .words) j))
-        → (j : ℕ) → j ≤ 6 → (j ≡ k → ⊥) → caseAt (z .words) (z .speeds) j ≡ caseAt (a .words) (a .speeds) j
-    all-stay z s zero h n = s .written
-    all-stay z s (suc j) h n = s .others (suc j) h (λ q. omega (arith, q))
+    all-stay : (j : ℕ) → j ≤ 6 → (j ≡ k → ⊥)
+        → let z = stored (dropSlot k) a in caseAt (z .words) (z .speeds) j ≡ caseAt (a .words) (a .speeds) j
+    all-stay zero h n = drop-store .written
+    all-stay (suc j) h n = drop-store .others (suc j) h (λ q. omega (arith, q))
 
     pub drop-rel : Rel words speeds (stored (dropSlot k) a) (entered (dropSlot k) b)
-    unfolding refusal entered
-    drop-rel =
-        let there = row-passed _ _ _ e in
-        slot-rel r k (low k there) (high k there) none drop-store (all-stay (stored (dropSlot k) a) drop-store) (λ l f. absurd (none-some l f))
+    unfolding entered
+    drop-rel = slot-rel r k (low k there) (high k there) none drop-store all-stay (λ l f. absurd (none-some l f))
 
 -- ---- Start, on arrays of any content
 
@@ -185,7 +183,7 @@ module _ (file mvs speeds queues : List ℕ) (a : Arrays) (g : Grounds) (many : 
   start-store = start-stored a file mvs speeds queues file-taken (rw many words-room) (rw speeds-many speeds-room)
 
   pub start-rel : Rel (g .words) (g .speeds) (stored (start file mvs speeds queues) a) (started w (startCase w mvs speeds queues))
-  unfolding caseOf
+  unfolding caseOf startMarks
   start-rel =
       let s = start-store in
       record {
@@ -195,10 +193,11 @@ module _ (file mvs speeds queues : List ℕ) (a : Arrays) (g : Grounds) (many : 
         speeds-fit = speeds-room;
         kept = s .kept;
         network = s .network;
-        runs = s .runs-are;
+        runs = s .words-are 0 (omega arith);
         runs-le = omega arith;
+        arranged = s .words-are 15 (omega arith);
         live = record { good = good-start file mvs speeds queues file-taken lists-taken; is = s .live };
         slots = λ k l x. absurd (none-some l x);
         slot-number = λ k l x. absurd (none-some l x);
-        marks = s .marks-are;
+        marks = λ k lo hi. s .words-are k (omega arith) ∙ List·getD-append (replicate 15 0) (1 ∷ []) 0 k (omega arith) ∙ getD-replicate 15 k 0 0 (omega arith);
       }

@@ -21,9 +21,9 @@ use Rattle.metanet.specs.Words.{netOf}
 use Rattle.metanet.proofs.SameNetwork.{case-number-from, step-number-from}
 use Rattle.book.specs.Arrangement.{wordsFor, speedsFor, sizeAt, runCountAt, markAt, filledAt, caseAt}
 use Rattle.book.specs.Sound.{caseNumberAt, slotNumber, casesNumber, soundNumber, sound}
-use Rattle.book.specs.Calls.{Call}
+use Rattle.book.specs.Calls.{Call, isStart}
 use Rattle.book.specs.Refusal.{refusal}
-use Rattle.book.specs.Perform.{Arrays, isStart, groundsAt, refusalAt}
+use Rattle.book.specs.Perform.{Arrays, groundsAt, refusalAt}
 use Rattle.metanet.specs.Line.{Line, caseOf}
 use Rattle.book.specs.Book.{Book, isFilled, lineAt, groundsIn}
 use Rattle.book.proofs.Rel.{markOf, Kept, Rel}
@@ -106,7 +106,8 @@ module _ {words speeds : ℕ} {a : Arrays} {b : Book} (r : Rel words speeds a b)
   cases-view : casesNumber (a .words) (a .speeds) ≡ 0
   unfolding casesNumber
   cases-view =
-      row-skipped _ _ _ (le-ltb 1000000 (runCountAt (a .words)) (rw (r .runs) (r .runs-le)))
+      row-skipped _ _ _
+      (λ i. le-ltb 1000000 (runCountAt (a .words)) (rw (r .runs) (r .runs-le)) i || not (eq-eqb _ _ (r .arranged) i))
       ∙ first-zero _ _ (place-view 0 (b .live) (r .live))
       ∙ firstOf-all (λ k. slotNumber (a .words) (a .speeds) (k + 1)) 6 (λ k l. slot-view (k + 1) (omega arith) (omega arith))
 

@@ -12,11 +12,10 @@ use Rattle.metanet.specs.Start.{startSegmentNumber, startNumber}
 use Rattle.metanet.specs.Line.{stepsOf}
 use Rattle.metanet.specs.Worked.{WorkedStep, givenFigures, figuresAlong, startCaseOf, chainNetwork, chain}
 use Rattle.metanet.proofs.Worked.{chain-holds}
-use Rattle.book.specs.Calls.{Answer, accepted, figures}
-use Rattle.book.specs.Refusal.{askedNumber, refusal}
-use Rattle.book.specs.Perform.{unless, answerOf}
+use Rattle.book.specs.Question.{questionNumber, figuresFor, figuresAsked, Answer, accepted, figures}
+use Rattle.book.specs.Refusal.{itemNumber, questionRefusal, refusal}
+use Rattle.book.specs.Perform.{unless, answerOf, answers}
 use Rattle.book.specs.Book.{started, entered, enter}
-use Rattle.book.specs.Claim.{bookAnswers}
 use Rattle.book.specs.Worked.{workedCalls, workedAnswers, WorkedAnswered}
 use Rattle.book.proofs.Begun.{begun-answers}
 
@@ -51,9 +50,9 @@ chain-taken = refl
 
 -- what the book answers, whatever the cases of its lines are
 chain-in-book : (words speeds : ℕ)
-    → bookAnswers words speeds (workedCalls 3 (chain .steps)) (started (chain .network) (startCaseOf chain))
+    → answers (enter words speeds) (workedCalls 3 (chain .steps)) (started (chain .network) (startCaseOf chain))
     ≡ answersWith (chain .steps) (figuresAlong (chain .network) (startCaseOf chain) [] (chain .steps))
-unfolding chain answersWith figuresAlong workedCalls bookAnswers enter entered unless refusal askedNumber answerOf stepsOf stepNumber arrivalNumber table row first firstOf anyOf
+unfolding chain answersWith figuresAlong workedCalls answers enter entered unless refusal itemNumber questionRefusal questionNumber answerOf figuresAsked figuresFor stepsOf stepNumber arrivalNumber table row first firstOf anyOf
 chain-in-book words speeds = refl
 
 pub chain-answered : WorkedAnswered chain

@@ -18,15 +18,14 @@ use Rattle.format.proofs.File.{file-accepted}
 use Rattle.format.proofs.RoundTrip.{round-trip}
 use Rattle.book.specs.Arrangement.{networkAt}
 use Rattle.book.specs.Sound.{sound}
-use Rattle.book.specs.Calls.{Call, start, sign, meter, step, hold, recall, dropSlot, report, reportSegment, reportRuns, accepted}
+use Rattle.book.specs.Calls.{Call, start, hold, recall, dropSlot, isStart, noStart, item, question}
 use Rattle.metanet.specs.Start.{startCase}
 use Rattle.book.specs.Refusal.{refusal}
-use Rattle.book.specs.Perform.{Arrays, refusalAt, perform}
+use Rattle.book.specs.Perform.{Arrays, refusalAt, after, perform}
 use Rattle.book.specs.Book.{Book, started}
-use Rattle.book.specs.Claim.{Entry, kindIn, isStart, noStart, after, history, Since}
-use Rattle.book.specs.Write.{writeRefusal, writtenBytes, WritesBack}
-use Rattle.book.proofs.History.{entry}
-use Rattle.book.proofs.Demand3.{demand-3}
+use Rattle.book.specs.Claim.{Since}
+use Rattle.book.specs.Write.{writeRefusal, writtenBytes, StudyWritesBack}
+use Rattle.book.proofs.Demand3.{demand-3, begin-taken}
 
 -- ---- Write of a sound study that holds the network of an accepted file
 
@@ -50,31 +49,22 @@ module _ (file : List ℕ) (bs : Bytes file) (f : fileNumber file ≡ 0) where
         ∙ (λ i. fileOf (w i) ++ drop (fileSize (w i .head)) out)
         ∙ (λ i. round-trip file bs f i ++ drop (size-is i) out)
 
--- ---- the last accepted Start, where no entry after the first is one
+-- ---- the last accepted Start, where no accepted call after the first is one
 
-has-start : (es : List Entry) (s : Entry) (later : List Entry) → isStart (kindIn s) ≡ true → noStart (es ++ (s ∷ later)) ≡ true → ⊥
+has-start : (cs : List Call) (s : Call) (later : List Call) → isStart s ≡ true → noStart (cs ++ (s ∷ later)) ≡ true → ⊥
 unfolding noStart
-has-start [] s later e n = false≢true (ap not (sym e) ∙ and-left (not (isStart (kindIn s))) (noStart later) n)
-has-start (x ∷ es) s later e n = has-start es s later e (and-right (not (isStart (kindIn x))) (noStart (es ++ (s ∷ later))) n)
+has-start [] s later e n = false≢true (ap not (sym e) ∙ and-left (not (isStart s)) (noStart later) n)
+has-start (x ∷ cs) s later e n = has-start cs s later e (and-right (not (isStart x)) (noStart (cs ++ (s ∷ later))) n)
 
--- an accepted Start in such a history is its first entry
-only-start : (e : Entry) (es before : List Entry) (s : Entry) (later : List Entry) → noStart es ≡ true → isStart (kindIn s) ≡ true
-    → (e ∷ es) ≡ before ++ (s ∷ later) → e ≡ s
-only-start e es [] s later n t p = head-eq-of-cons-eq p
-only-start e es (x ∷ before) s later n t p = absurd (has-start before s later t (ap noStart (sym (tail-eq-of-cons-eq p)) ∙ n))
+-- a Start in such a list is its first call
+only-start : (c : Call) (cs before : List Call) (s : Call) (later : List Call) → noStart cs ≡ true → isStart s ≡ true
+    → (c ∷ cs) ≡ before ++ (s ∷ later) → c ≡ s
+only-start c cs [] s later n t p = head-eq-of-cons-eq p
+only-start c cs (x ∷ before) s later n t p = absurd (has-start before s later t (ap noStart (sym (tail-eq-of-cons-eq p)) ∙ n))
 
 -- the file that a Start brings
 abbrev fileIn : Call → List ℕ
-fileIn (start file mvs speeds queues) = file
-fileIn (sign i limit compliance) = []
-fileIn (meter i setting) = []
-fileIn (step arrivals) = []
-fileIn (hold k) = []
-fileIn (recall k) = []
-fileIn (dropSlot k) = []
-fileIn (report k) = []
-fileIn (reportSegment k i) = []
-fileIn reportRuns = []
+fileIn = elim [ start file mvs speeds queues ↦ file | item i ↦ [] | hold k ↦ [] | recall k ↦ [] | dropSlot k ↦ [] | question q ↦ [] ]
 
 -- ---- from demand 3
 
@@ -82,22 +72,17 @@ file-taken : (file mvs initial queues : List ℕ) (a : Arrays) → refusalAt (st
 unfolding refusalAt row refusal
 file-taken file mvs initial queues a e = first-zero-left _ _ e
 
-module _ (file mvs initial queues : List ℕ) (cs : List Call) (a : Arrays) where
-  abbrev begin : Call
-  begin = start file mvs initial queues
+file-is : (file mvs initial queues : List ℕ) (cs : List Call) (b : Book) → noStart cs ≡ true → (s : Since (start file mvs initial queues ∷ cs) b) → s .file ≡ file
+file-is file mvs initial queues cs b n s =
+    sym (ap fileIn
+    (only-start (start file mvs initial queues) cs (s .before) (start (s .file) (s .mvs) (s .speeds) (s .queues)) (s .later) n refl (s .split)))
 
-  file-is : (b : Book) → noStart (history cs (perform begin a .state)) ≡ true → (s : Since (history (begin ∷ cs) a) b) → s .file ≡ file
-  unfolding history
-  file-is b n s =
-      sym (ap (λ (e : Entry). fileIn (e .call))
-      (only-start (entry begin (perform begin a .answer)) (history cs (perform begin a .state)) (s .before)
-      (entry (start (s .file) (s .mvs) (s .speeds) (s .queues)) accepted) (s .later) n refl (s .split)))
-
-pub write-back : WritesBack
+pub write-back : StudyWritesBack
 write-back file mvs initial queues cs a out e n bs room =
-    let z : Arrays = after (start file mvs initial queues ∷ cs) a in
+    let z : Arrays = after perform (start file mvs initial queues ∷ cs) a in
     let f : fileNumber file ≡ 0 = file-taken file mvs initial queues a e in
     let b : Book = started (networkOf file) (startCase (networkOf file) mvs initial queues) in
     let d = demand-3 file mvs initial queues cs a b e in
+    let s = rw (begin-taken file mvs initial queues a e cs) at (d .since) in
     written file bs f (z .words) (z .speeds) out (d .is-sound)
-    (d .network ∙ d .since .network ∙ ap networkOf (file-is file mvs initial queues cs a _ n (d .since))) room
+    (d .network ∙ s .network ∙ ap networkOf (file-is file mvs initial queues _ _ n s)) room

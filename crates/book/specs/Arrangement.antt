@@ -1,10 +1,10 @@
 -- Where a study stands in the lent words and speeds (docs/ARRANGEMENT.md): the network in words 0..2,559, the run count, a mark for
--- each slot, and the cases 0 (live) and 1..6 (slots).
+-- each slot, the arrangement number, and the cases 0 (live) and 1..6 (slots).
 use Prim.Native.Nat.{ℕ, _+_, _*_}
 use mathlib.Core.Bool.{Bool, _&&_}
-use mathlib.Core.List.{List}
+use mathlib.Core.List.{List, [], _∷_, _++_}
 use lib.Dec.{leb, eqb}
-use lib.ListN.{getD}
+use lib.ListN.{getD, replicate}
 use lib.Ieee.{Float}
 use Rattle.format.specs.Network.{Network}
 use Rattle.format.specs.Words.{networkWords, headIn, networkIn}
@@ -17,9 +17,6 @@ use Rattle.metanet.specs.Words.{netOf, caseIn}
 abbrev pub slots : ℕ
 slots = 6
 
-abbrev pub cases : ℕ
-cases = 1 + slots
-
 -- the run count's word, the first after the network's
 abbrev pub runWord : ℕ
 runWord = networkWords
@@ -28,9 +25,21 @@ runWord = networkWords
 abbrev pub markWord : ℕ → ℕ
 markWord k = runWord + k
 
--- the words of run count and marks, with some that are free
+-- the words of run count, marks and arrangement number, with some that are free
 abbrev pub marksLength : ℕ
 marksLength = 16
+
+-- the arrangement number's word, the last of them
+abbrev pub arrangementWord : ℕ
+arrangementWord = runWord + 15
+
+-- the number of this arrangement: another one is another number
+abbrev pub arrangement : ℕ
+arrangement = 1
+
+-- those words at the start of a study: run count 0, slots empty, the free words 0
+unfoldable pub startMarks : List ℕ
+startMarks = replicate 15 0 ++ (arrangement ∷ [])
 
 -- the words of a case of n segments
 abbrev pub caseLength : ℕ → ℕ
@@ -45,10 +54,10 @@ caseSpeed n k = k * n
 
 -- at least 2,560 + 7 × (16n + 8) + 16 words and 7n speeds
 abbrev pub wordsFor : ℕ → ℕ
-wordsFor n = runWord + marksLength + cases * caseLength n
+wordsFor n = runWord + marksLength + (1 + slots) * caseLength n
 
 abbrev pub speedsFor : ℕ → ℕ
-speedsFor n = cases * n
+speedsFor n = (1 + slots) * n
 
 -- ---- what stands there
 
@@ -60,6 +69,9 @@ sizeAt words = headIn (netOf words) .size
 
 abbrev pub runCountAt : List ℕ → ℕ
 runCountAt words = getD words runWord 0
+
+abbrev pub arrangementAt : List ℕ → ℕ
+arrangementAt words = getD words arrangementWord 0
 
 abbrev pub markAt : List ℕ → ℕ → ℕ
 markAt words k = getD words (markWord k) 0

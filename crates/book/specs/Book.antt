@@ -7,14 +7,13 @@ use lib.Dec.{eqb}
 use Rattle.format.specs.Network.{Network}
 use Rattle.format.specs.File.{networkOf}
 use Rattle.metanet.specs.Case.{Case}
-use Rattle.book.specs.Calls.{Call, start, sign, meter, step, hold, recall, dropSlot, report, reportSegment, reportRuns}
 use Rattle.metanet.specs.Start.{startCase}
+use Rattle.metanet.specs.Line.{Line, caseOf, stepsOf, itemSteps}
+use Rattle.book.specs.Calls.{Call, start, item, hold, recall, dropSlot, question}
 use Rattle.book.specs.Refusal.{Grounds, refusal}
 use Rattle.book.specs.Perform.{Outcome, unless, answerOf}
-use Rattle.metanet.specs.Line.{signed, metered, stepped, Line, caseOf, Item, stepsOf, itemSteps}
 
--- ---- the book: network and start case of the last accepted Start, a live line, for each slot a line or "empty", and the run count
-
+-- the network and start case of the last accepted Start, a live line, for each slot a line or "empty", and the run count
 pub record Book : Type 0 where
   pub network : Network
   pub begun : Case
@@ -30,39 +29,39 @@ abbrev pub lineIn : Option Line → Line
 lineIn none = []
 lineIn (some l) = l
 
--- the line asked for: 0 is the live one
+-- the case of the line asked for: 0 is the live one
 abbrev pub lineAt : Book → ℕ → Line
 lineAt b zero = b .live
 lineAt b (suc k) = lineIn (b .slot (suc k))
 
-abbrev pub caseIn : Book → ℕ → Case
-caseIn b k = caseOf (b .network) (b .begun) (lineAt b k)
+abbrev pub bookCase : Book → ℕ → Case
+bookCase b k = caseOf (b .network) (b .begun) (lineAt b k)
+
+-- ---- what an accepted call makes of the book
+
+abbrev pub started : Network → Case → Book
+started w c = record { network = w; begun = c; live = []; slot = λ k. none; runs = 0 }
+
+-- the same network and start case, with these lines and this run count
+abbrev pub withLines : Book → Line → (ℕ → Option Line) → ℕ → Book
+withLines b live slot runs = record { network = b .network; begun = b .begun; live = live; slot = slot; runs = runs }
 
 -- the slots with o in slot k
 abbrev pub withSlot : (ℕ → Option Line) → ℕ → Option Line → ℕ → Option Line
 withSlot slot k o j = cond (eqb j k) o (slot j)
 
-abbrev pub started : Network → Case → Book
-started w c = record { network = w; begun = c; live = []; slot = λ k. none; runs = 0 }
-
--- the item appended to the live line, and the run count that much higher
-abbrev pub appended : Book → Item → Book
-appended b i = record { network = b .network; begun = b .begun; live = b .live ++ (i ∷ []); slot = b .slot; runs = b .runs + itemSteps i }
-
--- what an accepted call makes of the book
+-- Sign, Meter and Step are appended to the live line; Step adds 1 to the run count
 unfoldable pub entered : Call → Book → Book
 entered (start file mvs speeds queues) b = started (networkOf file) (startCase (networkOf file) mvs speeds queues)
-entered (sign i limit compliance) b = appended b (signed i limit compliance)
-entered (meter i setting) b = appended b (metered i setting)
-entered (step arrivals) b = appended b (stepped arrivals)
-entered (hold k) b = record { network = b .network; begun = b .begun; live = b .live; slot = withSlot (b .slot) k (some (b .live)); runs = b .runs }
-entered (recall k) b = record { network = b .network; begun = b .begun; live = lineIn (b .slot k); slot = b .slot; runs = b .runs }
-entered (dropSlot k) b = record { network = b .network; begun = b .begun; live = b .live; slot = withSlot (b .slot) k none; runs = b .runs }
-entered (report k) b = b
-entered (reportSegment k i) b = b
-entered reportRuns b = b
+entered (item i) b = withLines b (b .live ++ (i ∷ [])) (b .slot) (b .runs + itemSteps i)
+entered (hold k) b = withLines b (b .live) (withSlot (b .slot) k (some (b .live))) (b .runs)
+entered (recall k) b = withLines b (lineIn (b .slot k)) (b .slot) (b .runs)
+entered (dropSlot k) b = withLines b (b .live) (withSlot (b .slot) k none) (b .runs)
+entered (question q) b = b
 
--- a call is refused by the first row that applies, judged on its arguments, the two lengths and the book; 12 never applies there
+-- ---- a call
+
+-- judged on its arguments, the two lengths and the book; 12 never applies there
 abbrev pub groundsIn : ℕ → ℕ → Book → Grounds
 groundsIn words speeds b =
     record {
@@ -79,4 +78,4 @@ unfoldable pub enter : ℕ → ℕ → Call → Book → Outcome Book
 unfolding entered unless
 enter words speeds c b =
     unless (refusal c (groundsIn words speeds b)) b
-    (record { state = entered c b; answer = answerOf c (b .network) (caseIn b) (b .runs) })
+    (record { state = entered c b; answer = answerOf c (b .network) (bookCase b) (b .runs) })

@@ -1,59 +1,71 @@
--- The calls on a study that demand 3 is about, and what they answer.
-use Prim.Native.Nat.{ℕ}
+-- The calls on a study that demand 3 is about, and what a list of them holds.
+use Prim.Native.Nat.{ℕ, _+_}
+use mathlib.Core.Bool.{Bool, true, false, _&&_, _||_, not}
 use mathlib.Core.List.{List, [], _∷_}
-use lib.IntN.{ℤ}
-use Rattle.metanet.specs.declared.Setting.{Setting}
+use lib.Dec.{leb, eqb}
+use Rattle.format.specs.File.{networkOf}
+use Rattle.metanet.specs.Line.{Item, itemSteps}
 use Rattle.book.specs.declared.Verdict.{Verdict}
 use Rattle.book.specs.declared.Verdict.the-variants as verdict
-use Rattle.book.specs.declared.CaseReport.{CaseReport}
-use Rattle.book.specs.declared.CaseReport.the-variants as caseReport
-use Rattle.book.specs.declared.SegmentReport.{SegmentReport}
-use Rattle.book.specs.declared.SegmentReport.the-variants as segmentReport
-use Rattle.book.specs.declared.RunReport.{RunReport}
-use Rattle.book.specs.declared.RunReport.the-variants as runReport
+use Rattle.book.specs.Question.{Question, Answer, refused, accepted}
 
 -- the arguments of each call; segments, cases and slots by the paper's numbers
 pub data Call : Type 0 where
   -- file, initial mv, speeds and queues
   start : List ℕ → List ℕ → List ℕ → List ℕ → Call
-  -- segment, limit, compliance
-  sign : ℕ → ℕ → ℤ → Call
-  -- segment, setting
-  meter : ℕ → Setting → Call
-  -- arrivals
-  step : List ℕ → Call
+  -- Sign, Meter or Step
+  item : Item → Call
   -- slot
   hold : ℕ → Call
   recall : ℕ → Call
   dropSlot : ℕ → Call
-  -- case
-  report : ℕ → Call
-  -- case, segment
-  reportSegment : ℕ → ℕ → Call
-  reportRuns : Call
+  question : Question → Call
 
--- a number that refused the call, or that it was accepted, with the figures of a report
-pub data Answer : Type 0 where
-  refused : ℕ → Answer
-  accepted : Answer
-  figures : List ℕ → Answer
-
--- ---- what each case of the functions' answers says
-
+-- what a function says that is no question
 abbrev pub verdictSays : Verdict → Answer
 verdictSays (verdict.Refused number) = refused number
 verdictSays verdict.Accepted = accepted
 
--- steps, mv in segments, in queues, arrivals, exits, time
-abbrev pub caseSays : CaseReport → Answer
-caseSays (caseReport.Refused number) = refused number
-caseSays (caseReport.Figures f) = figures (f .steps ∷ f .segments ∷ f .queues ∷ f .arrivals ∷ f .exits ∷ f .time ∷ [])
+-- ---- what a call is
 
--- N, s, bits of v, w, last outflow, last release, R
-abbrev pub segmentSays : SegmentReport → Answer
-segmentSays (segmentReport.Refused number) = refused number
-segmentSays (segmentReport.Figures f) = figures (f .count ∷ f .whole ∷ f .bits ∷ f .queue ∷ f .outflow ∷ f .release ∷ f .rate ∷ [])
+abbrev pub isStart : Call → Bool
+isStart = elim [ start file mvs speeds queues ↦ true | item i ↦ false | hold k ↦ false | recall k ↦ false | dropSlot k ↦ false | question q ↦ false ]
 
-abbrev pub runSays : RunReport → Answer
-runSays (runReport.Refused number) = refused number
-runSays (runReport.Count runs) = figures (runs ∷ [])
+-- a hold into slot j, a drop of it
+abbrev pub isHold : ℕ → Call → Bool
+isHold j = elim [ start file mvs speeds queues ↦ false | item i ↦ false | hold k ↦ eqb j k | recall k ↦ false | dropSlot k ↦ false | question q ↦ false ]
+
+abbrev pub isDrop : ℕ → Call → Bool
+isDrop j = elim [ start file mvs speeds queues ↦ false | item i ↦ false | hold k ↦ false | recall k ↦ false | dropSlot k ↦ eqb j k | question q ↦ false ]
+
+abbrev pub stepsBy : Call → ℕ
+stepsBy = elim [ start file mvs speeds queues ↦ 0 | item i ↦ itemSteps i | hold k ↦ 0 | recall k ↦ 0 | dropSlot k ↦ 0 | question q ↦ 0 ]
+
+-- the segments of the network that a Start brings
+abbrev pub broughtBy : Call → ℕ
+broughtBy = elim [ start file mvs speeds queues ↦ networkOf file .head .size | item i ↦ 0 | hold k ↦ 0 | recall k ↦ 0 | dropSlot k ↦ 0 | question q ↦ 0 ]
+
+-- ---- what a list of calls holds
+
+unfoldable pub noStart : List Call → Bool
+noStart [] = true
+noStart (c ∷ cs) = not (isStart c) && noStart cs
+
+-- no Start brings more than m segments
+unfoldable pub sizesWithin : ℕ → List Call → Bool
+sizesWithin m [] = true
+sizesWithin m (c ∷ cs) = leb (broughtBy c) m && sizesWithin m cs
+
+unfoldable pub stepsIn : List Call → ℕ
+stepsIn [] = 0
+stepsIn (c ∷ cs) = stepsBy c + stepsIn cs
+
+unfoldable pub noDrop : ℕ → List Call → Bool
+noDrop k [] = true
+noDrop k (c ∷ cs) = not (isDrop k c) && noDrop k cs
+
+-- a hold into slot k, and no drop of it after that hold
+unfoldable pub heldIn : ℕ → List Call → Bool
+unfolding noDrop
+heldIn k [] = false
+heldIn k (c ∷ cs) = isHold k c && noDrop k cs || heldIn k cs

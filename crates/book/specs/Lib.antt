@@ -1,5 +1,6 @@
 pub mod Arrangement
 pub mod Sound
+pub mod Question
 pub mod Calls
 pub mod Refusal
 pub mod Perform

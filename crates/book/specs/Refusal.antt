@@ -6,11 +6,13 @@ use Rattle.laws.specs.First.{outside, row, first}
 use Rattle.format.specs.Network.{Network, entryOf, segmentOf}
 use Rattle.format.specs.File.{fileNumber, networkOf}
 use Rattle.metanet.specs.Sound.{stepNumber}
-use Rattle.book.specs.Arrangement.{slots, wordsFor, speedsFor}
-use Rattle.book.specs.Sound.{runsMost}
-use Rattle.book.specs.Calls.{Call, start, sign, meter, step, hold, recall, dropSlot, report, reportSegment, reportRuns}
 use Rattle.metanet.specs.Start.{startNumber}
 use Rattle.metanet.specs.Change.{signRefused, settingRefused}
+use Rattle.metanet.specs.Line.{Item, signed, metered, stepped}
+use Rattle.book.specs.Arrangement.{slots, wordsFor, speedsFor}
+use Rattle.book.specs.Sound.{runsMost}
+use Rattle.book.specs.Question.{Question, ofCase, runCount, segmentMissing, questionNumber}
+use Rattle.book.specs.Calls.{Call, start, item, hold, recall, dropSlot, question}
 
 -- what a call is judged on beside its arguments: the two lengths, the network, the steps of the live line, the run count, which slots
 -- are filled
@@ -22,41 +24,42 @@ pub record Grounds : Type 0 where
   pub runs : ℕ
   pub filled : ℕ → Bool
 
--- 17 segment outside 1..n
-abbrev pub segmentMissing : Grounds → ℕ → Bool
-segmentMissing g i = outside 1 i (g .network .head .size)
+unfoldable pub itemNumber : Item → Grounds → ℕ
+-- 17; 18
+itemNumber (signed i limit compliance) g = row (segmentMissing (g .network) i) 17 (row (signRefused limit compliance) 18 0)
+-- 17; 19 segment 1 or no origin; 20
+itemNumber (metered i setting) g =
+    let s = segmentOf (g .network) (i - 1) in
+    row (segmentMissing (g .network) i) 17 (row (eqb i 1 || eqb (s .origin) 0) 19 (row (settingRefused (s .most) setting) 20 0))
+-- 13 list length; 15; 16 20,000 steps on the line or run count 1,000,000
+itemNumber (stepped arrivals) g =
+    let w = g .network in
+    first (stepNumber (w .head) (entryOf w) (segmentOf w) (g .steps) arrivals) (row (leb runsMost (g .runs)) 16 0)
 
 -- 21 no such slot
 abbrev pub slotMissing : ℕ → Bool
 slotMissing k = outside 1 k slots
 
--- Report: 21 no such slot; 23 an empty one. Case 0 is the live one
-unfoldable pub askedNumber : Grounds → ℕ → ℕ
-askedNumber g k = row (ltb slots k) 21 (row (not (eqb k 0 || g .filled k)) 23 0)
+-- Recall and Drop: 21; 23 an empty slot
+unfoldable pub slotRefusal : ℕ → Grounds → ℕ
+slotRefusal k g = row (slotMissing k) 21 (row (not (g .filled k)) 23 0)
+
+-- a question about a case: 21; 23; then its own rows. Case 0 is the live one
+unfoldable pub questionRefusal : Question → Grounds → ℕ
+questionRefusal (ofCase k q) g = row (ltb slots k) 21 (row (not (eqb k 0 || g .filled k)) 23 (questionNumber (g .network) q))
+questionRefusal runCount g = 0
 
 unfoldable pub refusal : Call → Grounds → ℕ
-unfolding askedNumber
+unfolding itemNumber slotRefusal questionRefusal
 -- after the file: 11 arrays too short; 13 list length; 14
 refusal (start file mvs speeds queues) g =
     let w = networkOf file in
     first (fileNumber file)
     (row (ltb (g .words) (wordsFor (w .head .size)) || ltb (g .speeds) (speedsFor (w .head .size))) 11
     (startNumber w mvs speeds queues))
--- 17; 18
-refusal (sign i limit compliance) g = row (segmentMissing g i) 17 (row (signRefused limit compliance) 18 0)
--- 17; 19 segment 1 or no origin; 20
-refusal (meter i setting) g =
-    let s = segmentOf (g .network) (i - 1) in
-    row (segmentMissing g i) 17 (row (eqb i 1 || eqb (s .origin) 0) 19 (row (settingRefused (s .most) setting) 20 0))
--- 13 list length; 15; 16 20,000 steps on the line or run count 1,000,000
-refusal (step arrivals) g =
-    let w = g .network in
-    first (stepNumber (w .head) (entryOf w) (segmentOf w) (g .steps) arrivals) (row (leb runsMost (g .runs)) 16 0)
--- 21; 22 Hold into a filled slot; 23 the others on an empty one
+refusal (item i) g = itemNumber i g
+-- 21; 22 Hold into a filled slot
 refusal (hold k) g = row (slotMissing k) 21 (row (g .filled k) 22 0)
-refusal (recall k) g = row (slotMissing k) 21 (row (not (g .filled k)) 23 0)
-refusal (dropSlot k) g = row (slotMissing k) 21 (row (not (g .filled k)) 23 0)
-refusal (report k) g = askedNumber g k
--- 17 after 21, 23
-refusal (reportSegment k i) g = first (askedNumber g k) (row (segmentMissing g i) 17 0)
-refusal reportRuns g = 0
+refusal (recall k) g = slotRefusal k g
+refusal (dropSlot k) g = slotRefusal k g
+refusal (question q) g = questionRefusal q g

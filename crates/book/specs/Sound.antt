@@ -1,7 +1,7 @@
 -- A sound study: arrays long enough for the stored n; stored network within rows 4, 6, 7, 8; the live and filled cases sound; run count
--- ≤ 1,000,000; every mark one that the arrangement names.
+-- ≤ 1,000,000; every mark and the arrangement number ones that the arrangement names.
 use Prim.Native.Nat.{ℕ, _+_}
-use mathlib.Core.Bool.{Bool, _||_}
+use mathlib.Core.Bool.{Bool, _||_, not}
 use mathlib.Core.List.{List}
 use lib.Dec.{ltb, eqb}
 use lib.ListN.{length}
@@ -10,7 +10,7 @@ use Rattle.laws.specs.First.{row, first, firstOf}
 use Rattle.format.specs.Words.{keptNumber}
 use Rattle.metanet.specs.Words.{netOf}
 use Rattle.metanet.specs.Sound.{caseNumberIn}
-use Rattle.book.specs.Arrangement.{slots, caseWord, caseSpeed, wordsFor, speedsFor, sizeAt, runCountAt, markAt}
+use Rattle.book.specs.Arrangement.{slots, caseWord, caseSpeed, wordsFor, speedsFor, arrangement, sizeAt, runCountAt, arrangementAt, markAt}
 
 abbrev pub runsMost : ℕ
 runsMost = 1000000
@@ -23,11 +23,11 @@ caseNumberAt words speeds k = let n = sizeAt words in caseNumberIn words speeds 
 unfoldable pub slotNumber : List ℕ → List Float → ℕ → ℕ
 slotNumber words speeds k = row (ltb 1 (markAt words k)) 12 (row (eqb (markAt words k) 0) 0 (caseNumberAt words speeds k))
 
--- 12, of the run count, the live case and the slots
+-- 12, of the run count, the arrangement number, the live case and the slots
 unfoldable pub casesNumber : List ℕ → List Float → ℕ
 unfolding slotNumber
 casesNumber words speeds =
-    row (ltb runsMost (runCountAt words)) 12
+    row (ltb runsMost (runCountAt words) || not (eqb (arrangementAt words) arrangement)) 12
     (first (caseNumberAt words speeds 0) (firstOf (λ k. slotNumber words speeds (k + 1)) slots))
 
 unfoldable pub soundNumber : List ℕ → List Float → ℕ

@@ -5,30 +5,24 @@ use mathlib.Core.List.{List, [], _∷_, _++_, map}
 use lib.ListN.{length}
 use Rattle.laws.specs.Lists.{table}
 use Rattle.format.specs.Written.{fileOf}
-use Rattle.metanet.specs.Line.{Item, signed, metered, stepped}
 use Rattle.metanet.specs.Worked.{WorkedStep, WorkedList, givenFigures}
 use Rattle.book.specs.Arrangement.{wordsFor, speedsFor}
-use Rattle.book.specs.Calls.{Call, start, sign, meter, step, report, reportSegment, Answer, accepted, figures}
-use Rattle.book.specs.Perform.{Arrays}
-use Rattle.book.specs.Claim.{answers}
+use Rattle.book.specs.Calls.{Call, start, item, question}
+use Rattle.book.specs.Question.{ofCase, totals, segment, Answer, accepted, figures}
+use Rattle.book.specs.Perform.{Arrays, perform, answers}
 
 -- ---- the calls
 
 abbrev pub startCall : WorkedList → Call
 startCall l = start (fileOf (l .network)) (l .mvs) (l .speeds) (l .queues)
 
-abbrev pub itemCall : Item → Call
-itemCall (signed i limit compliance) = sign i limit compliance
-itemCall (metered i setting) = meter i setting
-itemCall (stepped arrivals) = step arrivals
-
 -- of a case of n segments: its totals, then each segment's figures
 abbrev pub liveReports : ℕ → List Call
-liveReports n = report 0 ∷ table (λ i. reportSegment 0 (i + 1)) n
+liveReports n = question (ofCase 0 totals) ∷ table (λ i. question (ofCase 0 (segment (i + 1)))) n
 
 unfoldable pub workedCalls : ℕ → List WorkedStep → List Call
 workedCalls n [] = []
-workedCalls n (k ∷ ks) = map itemCall (k .items) ++ (liveReports n ++ workedCalls n ks)
+workedCalls n (k ∷ ks) = map item (k .items) ++ (liveReports n ++ workedCalls n ks)
 
 -- ---- their answers: every item is accepted, and the reports give the figures of the list
 
@@ -41,4 +35,4 @@ abbrev pub WorkedAnswered : WorkedList → Type 0
 WorkedAnswered l =
     let n : ℕ = l .network .head .size in
     (a : Arrays) → wordsFor n ≤ length (a .words) → speedsFor n ≤ length (a .speeds)
-    → answers (startCall l ∷ workedCalls n (l .steps)) a ≡ accepted ∷ workedAnswers (l .steps)
+    → answers perform (startCall l ∷ workedCalls n (l .steps)) a ≡ accepted ∷ workedAnswers (l .steps)

@@ -14,9 +14,9 @@ use Rattle.book.specs.declared.Written.{Written}
 use Rattle.book.specs.declared.Written.the-variants as written
 use Rattle.book.specs.Arrangement.{networkAt}
 use Rattle.book.specs.Sound.{sound}
-use Rattle.book.specs.Calls.{Call, start, Answer, refused, figures}
-use Rattle.book.specs.Perform.{Arrays, refusalAt, perform}
-use Rattle.book.specs.Claim.{after, history, noStart}
+use Rattle.book.specs.Question.{Answer, refused, figures}
+use Rattle.book.specs.Calls.{Call, start, noStart}
+use Rattle.book.specs.Perform.{Arrays, refusalAt, perform, after, taken}
 
 -- 12 study not sound; 24 buffer too short
 unfoldable pub writeRefusal : List ℕ → List Float → List ℕ → ℕ
@@ -41,12 +41,12 @@ writtenSays (written.Bytes size) = figures (size ∷ [])
 
 -- an accepted network writes back to the file's bytes: after a Start to which no refusal applies, and any later calls none of which is
 -- an accepted Start, Write into a buffer that is long enough gives the bytes of the file; later bytes stay
-abbrev pub WritesBack : Type 0
-WritesBack =
+abbrev pub StudyWritesBack : Type 0
+StudyWritesBack =
     (file mvs speeds queues : List ℕ) (cs : List Call) (a : Arrays) (out : List ℕ)
     → refusalAt (start file mvs speeds queues) a ≡ 0
-    → noStart (history cs (perform (start file mvs speeds queues) a .state)) ≡ true
+    → noStart (taken cs (perform (start file mvs speeds queues) a .state)) ≡ true
     → Bytes file
     → length file ≤ length out
-    → (let z : Arrays = after (start file mvs speeds queues ∷ cs) a in
+    → (let z : Arrays = after perform (start file mvs speeds queues ∷ cs) a in
     writtenBytes (z .words) (z .speeds) out ≡ file ++ drop (length file) out)

@@ -9,7 +9,8 @@ use lib.Ieee.{Float}
 use borrow.Author.Tests.{le-ltb}
 use Rattle.laws.specs.First.{row, first, ifAccepted}
 use Rattle.laws.proofs.First.{row-skipped, when-accepted}
-use Rattle.book.specs.Calls.{Call, Answer, refused, figures}
+use Rattle.book.specs.Question.{Answer, refused, figures}
+use Rattle.book.specs.Calls.{Call}
 use Rattle.book.specs.Perform.{Performs}
 use Rattle.engine.specs.Study.{numberOf, Called, putNumber, putFigures, reportNumber, reportWords, Reported}
 

@@ -9,12 +9,12 @@ use Rattle.format.specs.Curve.{curveCallNumber}
 use Rattle.format.specs.Place.{placeOf}
 
 -- the number of the curve call, then 24 where two words are not lent
-unfoldable pub caseNumberAt : List ℕ → ℕ → List ℕ → ℕ
-caseNumberAt b k place = first (curveCallNumber b k) (row (ltb (length place) 2) 24 0)
+unfoldable pub curvePlaceNumber : List ℕ → ℕ → List ℕ → ℕ
+curvePlaceNumber b k place = first (curveCallNumber b k) (row (ltb (length place) 2) 24 0)
 
 -- a refused call leaves the words as they came; later words stay
-unfoldable pub placeWords : List ℕ → ℕ → List ℕ → List ℕ
-placeWords b k place = ifAccepted (caseNumberAt b k place) (set (set place 0 (curveStart k)) 1 804) place
+unfoldable pub curvePlaceWords : List ℕ → ℕ → List ℕ → List ℕ
+curvePlaceWords b k place = ifAccepted (curvePlaceNumber b k place) (set (set place 0 (curveStart k)) 1 804) place
 
 -- what C is told of a file's place: the number that refuses it, or 0, the part, the rule and the byte offset
 abbrev pub placeFigures : List ℕ → List ℕ

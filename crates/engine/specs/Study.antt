@@ -7,7 +7,8 @@ use lib.Dec.{ltb}
 use lib.ListN.{length, drop}
 use lib.Ieee.{Float}
 use Rattle.laws.specs.First.{row, first, ifAccepted}
-use Rattle.book.specs.Calls.{Call, Answer, refused, accepted, figures}
+use Rattle.book.specs.Question.{Answer, refused, accepted, figures}
+use Rattle.book.specs.Calls.{Call}
 use Rattle.book.specs.Perform.{lent, perform}
 use Rattle.book.specs.Sound.{sound}
 

@@ -5,9 +5,11 @@ ghost use mathlib.Core.Path.{_≡_};
 ghost use Rattle.format.specs.File.{fileNumber};
 ghost use Rattle.format.specs.Curve.{curveCallNumber};
 ghost use Rattle.metanet.specs.declared.Setting.the-variants.{Open, Fixed, Alinea};
-ghost use Rattle.book.specs.Calls.{start, sign, meter, step, hold, recall, dropSlot, report, reportSegment, reportRuns, verdictSays};
+ghost use Rattle.metanet.specs.Line.{signed, metered, stepped};
+ghost use Rattle.book.specs.Question.{totals, segment, ofCase, runCount};
+ghost use Rattle.book.specs.Calls.{start, item, hold, recall, dropSlot, question, verdictSays};
 ghost use Rattle.book.specs.Write.{writtenBytes, writeAnswer};
-ghost use Rattle.engine.specs.Place.{caseNumberAt, placeWords, placeFigures};
+ghost use Rattle.engine.specs.Place.{curvePlaceNumber, curvePlaceWords, placeFigures};
 ghost use Rattle.engine.specs.Study.{soundness, numberOf, putNumber, putFigures, Called, Reported};
 
 // The number that refuses a network file, and 0 where it is accepted.
@@ -30,8 +32,8 @@ pub extern "C" fn network_curve_number(file: &[u8], k: u64) -> u64
 // curve, 24 where fewer than two words are lent, and 0; a refused call leaves the words as they came.
 #[no_mangle]
 pub extern "C" fn network_curve(file: &[u8], k: u64, place: &mut [u64]) -> u64
-    ensures { λ r. ⌜ r ≡ caseNumberAt (now (file .entry)) k (now (place .entry)) ⌝ }
-    ensures { λ _. ⌜ now (place .exit) ≡ placeWords (now (file .entry)) k (now (place .entry)) ⌝ }
+    ensures { λ r. ⌜ r ≡ curvePlaceNumber (now (file .entry)) k (now (place .entry)) ⌝ }
+    ensures { λ _. ⌜ now (place .exit) ≡ curvePlaceWords (now (file .entry)) k (now (place .entry)) ⌝ }
 {
     let r = network::curve_number(file, k);
     if r != 0 {
@@ -104,7 +106,7 @@ pub extern "C" fn study_sign(
     limit: u64,
     compliance: i64,
 ) -> u64
-    ensures { λ r. ⌜ Called (sign segment limit compliance) (now (words .entry)) (now (speeds .entry)) r (now (words .exit)) (now (speeds .entry)) ⌝ }
+    ensures { λ r. ⌜ Called (item (signed segment limit compliance)) (now (words .entry)) (now (speeds .entry)) r (now (words .exit)) (now (speeds .entry)) ⌝ }
 {
     number_of(study::sign(words, speeds, segment, limit, compliance))
 }
@@ -112,7 +114,7 @@ pub extern "C" fn study_sign(
 // The setting of a segment's ramp in the live case: open, fixed, or ALINEA.
 #[no_mangle]
 pub extern "C" fn study_meter_open(words: &mut [u64], speeds: &[f64], segment: u64) -> u64
-    ensures { λ r. ⌜ Called (meter segment Open) (now (words .entry)) (now (speeds .entry)) r (now (words .exit)) (now (speeds .entry)) ⌝ }
+    ensures { λ r. ⌜ Called (item (metered segment Open)) (now (words .entry)) (now (speeds .entry)) r (now (words .exit)) (now (speeds .entry)) ⌝ }
 {
     number_of(study::meter(words, speeds, segment, metanet::Setting::Open))
 }
@@ -124,7 +126,7 @@ pub extern "C" fn study_meter_fixed(
     segment: u64,
     rate: u64,
 ) -> u64
-    ensures { λ r. ⌜ Called (meter segment (Fixed rate)) (now (words .entry)) (now (speeds .entry)) r (now (words .exit)) (now (speeds .entry)) ⌝ }
+    ensures { λ r. ⌜ Called (item (metered segment (Fixed rate))) (now (words .entry)) (now (speeds .entry)) r (now (words .exit)) (now (speeds .entry)) ⌝ }
 {
     number_of(study::meter(words, speeds, segment, metanet::Setting::Fixed(rate)))
 }
@@ -139,7 +141,7 @@ pub extern "C" fn study_meter_alinea(
     least: u64,
     interval: u64,
 ) -> u64
-    ensures { λ r. ⌜ Called (meter segment (Alinea target gain least interval)) (now (words .entry)) (now (speeds .entry)) r (now (words .exit)) (now (speeds .entry)) ⌝ }
+    ensures { λ r. ⌜ Called (item (metered segment (Alinea target gain least interval))) (now (words .entry)) (now (speeds .entry)) r (now (words .exit)) (now (speeds .entry)) ⌝ }
 {
     let setting = metanet::Setting::Alinea {
         target,
@@ -153,7 +155,7 @@ pub extern "C" fn study_meter_alinea(
 // One step of the live case.
 #[no_mangle]
 pub extern "C" fn study_step(words: &mut [u64], speeds: &mut [f64], arrivals: &[u32]) -> u64
-    ensures { λ r. ⌜ Called (step (now (arrivals .entry))) (now (words .entry)) (now (speeds .entry)) r (now (words .exit)) (now (speeds .exit)) ⌝ }
+    ensures { λ r. ⌜ Called (item (stepped (now (arrivals .entry)))) (now (words .entry)) (now (speeds .entry)) r (now (words .exit)) (now (speeds .exit)) ⌝ }
 {
     number_of(study::step(words, speeds, arrivals))
 }
@@ -182,32 +184,32 @@ pub extern "C" fn study_drop(words: &mut [u64], speeds: &[f64], slot: u64) -> u6
     number_of(study::drop_slot(words, speeds, slot))
 }
 
-// Six figures of a case.
+// Six figures of case k.
 #[no_mangle]
 pub extern "C" fn study_report(words: &[u64], speeds: &[f64], k: u64, figures: &mut [u64]) -> u64
-    ensures { λ r. ⌜ Reported (report k) (now (words .entry)) (now (speeds .entry)) (now (figures .entry)) r (now (figures .exit)) ⌝ }
+    ensures { λ r. ⌜ Reported (question (ofCase k totals)) (now (words .entry)) (now (speeds .entry)) (now (figures .entry)) r (now (figures .exit)) ⌝ }
 {
     report::put_case(study::report(words, speeds, k), figures)
 }
 
-// Seven figures of a segment of a case.
+// Seven figures of segment i of case k.
 #[no_mangle]
 pub extern "C" fn study_report_segment(
     words: &[u64],
     speeds: &[f64],
     k: u64,
-    segment: u64,
+    i: u64,
     figures: &mut [u64],
 ) -> u64
-    ensures { λ r. ⌜ Reported (reportSegment k segment) (now (words .entry)) (now (speeds .entry)) (now (figures .entry)) r (now (figures .exit)) ⌝ }
+    ensures { λ r. ⌜ Reported (question (ofCase k (segment i))) (now (words .entry)) (now (speeds .entry)) (now (figures .entry)) r (now (figures .exit)) ⌝ }
 {
-    report::put_segment(study::report_segment(words, speeds, k, segment), figures)
+    report::put_segment(study::report_segment(words, speeds, k, i), figures)
 }
 
 // The run count.
 #[no_mangle]
 pub extern "C" fn study_run_count(words: &[u64], speeds: &[f64], figures: &mut [u64]) -> u64
-    ensures { λ r. ⌜ Reported (reportRuns) (now (words .entry)) (now (speeds .entry)) (now (figures .entry)) r (now (figures .exit)) ⌝ }
+    ensures { λ r. ⌜ Reported (question runCount) (now (words .entry)) (now (speeds .entry)) (now (figures .entry)) r (now (figures .exit)) ⌝ }
 {
     report::put_runs(study::run_count(words, speeds), figures)
 }

@@ -1,6 +1,6 @@
 // Figures put into lent words.
 ghost use mathlib.Core.Path.{_≡_};
-ghost use Rattle.book.specs.Calls.{caseSays, segmentSays, runSays};
+ghost use Rattle.book.specs.Question.{caseSays, segmentSays, runSays};
 ghost use Rattle.engine.specs.Study.{putNumber, putFigures, reportNumber, reportWords};
 
 // 24 where out is shorter than the figures, with out as it came, or 0.

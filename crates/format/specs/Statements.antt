@@ -5,11 +5,10 @@ use mathlib.Core.Path.{_≡_}
 use mathlib.Core.List.{List, _++_}
 use lib.ListN.{length, drop}
 use Rattle.laws.specs.BigEndian.{Bytes}
-use Rattle.format.specs.Network.{Network, networkNumber}
+use Rattle.format.specs.Network.{Network, networkNumber, Formed}
 use Rattle.format.specs.File.{fileNumber, networkOf}
 use Rattle.format.specs.Written.{fileOf}
 use Rattle.format.specs.Words.{networkIn, keptNumber, keptWords, writeBytes}
-use Rattle.format.specs.Network.{Formed}
 
 -- an accepted network writes back to the same bytes
 abbrev pub WritesBack : Type 0

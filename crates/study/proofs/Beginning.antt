@@ -20,10 +20,10 @@ use Rattle.format.proofs.KeepCall.{keep-is}
 use Rattle.metanet.specs.declared.SegmentState.{SegmentState}
 use Rattle.metanet.specs.Case.{Case, noState, stateOf}
 use Rattle.metanet.specs.Words.{stateWords, caseWords, caseSpeeds}
-use Rattle.book.specs.Arrangement.{caseWord}
+use Rattle.book.specs.Arrangement.{caseWord, startMarks}
 use Rattle.book.specs.Calls.{start}
 use Rattle.metanet.specs.Start.{startState, startCase}
-use Rattle.book.specs.Perform.{lent, startWords, startSpeeds, storedWords, storedSpeeds}
+use Rattle.book.specs.Perform.{lent, startWords, startSpeeds, stored}
 use Rattle.study.specs.Ready.{openWords, openWordsOn, beginWords}
 use Rattle.study.proofs.Starting.{same-segment}
 
@@ -45,23 +45,23 @@ whole xs l at k is =
 
 module _ (b mvs queues words : List ℕ) (z : fileNumber b ≡ 0) where
   abbrev front : List ℕ
-  front = keptWords (networkOf b) ++ replicate 16 0
+  front = keptWords (networkOf b) ++ startMarks
 
   length-front : length front ≡ 2576
-  unfolding networkFrom
+  unfolding networkFrom startMarks
   length-front =
-      length-append (keptWords (networkOf b)) (replicate 16 0)
+      length-append (keptWords (networkOf b)) startMarks
       ∙ ap (λ (m : ℕ). m + 16) (length-kept (networkOf b) (network-within b z .head .curves-high) (network-within b z .head .size-high))
 
   pub begun : {n : ℕ} {kept marked rowed last : List ℕ} → n ≡ headOf b .size → 2560 ≤ length words
-      → kept ≡ keepWords b words → marked ≡ putPart 2560 16 (replicate 16 0) kept
+      → kept ≡ keepWords b words → marked ≡ putPart 2560 16 startMarks kept
       → rowed ≡ puts 16 (openWordsOn b mvs queues) 2576 n marked → last ≡ putPart (2576 + 16 * n) 8 (replicate 8 0) rowed
       → last ≡ beginWords b mvs queues n words
   unfolding beginWords networkFrom
   begun {n} {kept} {marked} {rowed} size long k m r l =
       let k' : kept ≡ keptWords (networkOf b) ++ drop 2560 words = k ∙ keep-is b words (keep-accepted b words z long) in
       let size-kept = length-kept (networkOf b) (network-within b z .head .curves-high) (network-within b z .head .size-high) in
-      let m' : marked ≡ front ++ drop 2576 words = m ∙ put-after words kept (keptWords (networkOf b)) (replicate 16 0) 2560 16 size-kept k' in
+      let m' : marked ≡ front ++ drop 2576 words = m ∙ put-after words kept (keptWords (networkOf b)) startMarks 2560 16 size-kept k' in
       let r' : rowed ≡ (front ++ parts (openWordsOn b mvs queues) n) ++ drop (2576 + 16 * n) words = r ∙ puts-after words marked front 2576 16 (openWordsOn b mvs queues) n length-front m' in
       let long-states : length (front ++ parts (openWordsOn b mvs queues) n) ≡ 2576 + 16 * n =
       length-append front (parts (openWordsOn b mvs queues) n) ∙ (λ j. length-front j + length-parts 16 (openWordsOn b mvs queues) n (λ i h. length-open _ _ _) j) in
@@ -91,17 +91,17 @@ module _ (b mvs speeds queues : List ℕ) (z : fileNumber b ≡ 0) where
       made : stateWords (startState (networkOf b) mvs speeds queues i) ≡ openWords (getD mvs i 0) (getD queues i 0) (segmentOf (networkOf b) i .most)
       made = unfold stateWords startState openWords in refl
 
-  pub start-words : (words : List ℕ) (initial : List Float) → storedWords (start b mvs speeds queues) (lent words initial) ≡ beginWords b mvs queues n words
-  unfolding storedWords startWords caseWords beginWords startCase networkFrom
+  pub start-words : (words : List ℕ) (initial : List Float) → stored (start b mvs speeds queues) (lent words initial) .words ≡ beginWords b mvs queues n words
+  unfolding stored startWords caseWords beginWords startCase networkFrom
   start-words words initial =
-      sym (append-assoc (keptWords (networkOf b)) (replicate 16 0) _)
-      ∙ (λ j. (keptWords (networkOf b) ++ replicate 16 0) ++ (append-assoc (parts (λ i. stateWords (stateOf (c .states) i)) n) (replicate 8 0) (drop (caseWord n 1) words)) j)
-      ∙ (λ j. (keptWords (networkOf b) ++ replicate 16 0) ++ (parts-ext _ _ n open-state j ++ (replicate 8 0 ++ drop (place j) words)))
+      sym (append-assoc (keptWords (networkOf b)) startMarks _)
+      ∙ (λ j. (keptWords (networkOf b) ++ startMarks) ++ (append-assoc (parts (λ i. stateWords (stateOf (c .states) i)) n) (replicate 8 0) (drop (caseWord n 1) words)) j)
+      ∙ (λ j. (keptWords (networkOf b) ++ startMarks) ++ (parts-ext _ _ n open-state j ++ (replicate 8 0 ++ drop (place j) words)))
     where
       place : caseWord n 1 ≡ 2584 + 16 * n
       place = omega arith
 
-  pub start-speeds : (words : List ℕ) (initial : List Float) → storedSpeeds (start b mvs speeds queues) (lent words initial) ≡ table (λ i. real (getD speeds i 0)) n ++ drop n initial
-  unfolding storedSpeeds startSpeeds caseSpeeds networkFrom
+  pub start-speeds : (words : List ℕ) (initial : List Float) → stored (start b mvs speeds queues) (lent words initial) .speeds ≡ table (λ i. real (getD speeds i 0)) n ++ drop n initial
+  unfolding stored startSpeeds caseSpeeds networkFrom
   start-speeds words initial =
       ap (λ (l : List Float). l ++ drop n initial) (table-ext (λ i. stateOf (c .states) i .speed) (λ i. real (getD speeds i 0)) n (λ i l. ap (λ (r : SegmentState). r .speed) (state-is i l) ∙ (unfold startState in refl)))

@@ -1,5 +1,5 @@
--- Which state refuses a report, and that the figures read in the words are those of the case.
-use Prim.Native.Nat.{ℕ, suc, _+_, _*_, _≤_, _<_}
+-- Which row refuses a question about a case, and that the figures read in the words are those of the case.
+use Prim.Native.Nat.{ℕ, _+_, _*_, _≤_, _<_}
 use mathlib.Core.Path.{_≡_, refl, sym, ap, _∙_, subst}
 use mathlib.Core.Bool.{Bool, true, false, _&&_, _||_, not}
 use mathlib.Core.List.{List, [], _∷_}
@@ -32,8 +32,7 @@ use Rattle.book.specs.declared.SegmentReport.the-variants as segmentReport
 use Rattle.book.specs.Arrangement.{caseWord, caseSpeed, networkAt, sizeAt, markAt, filledAt, caseAt}
 use Rattle.book.specs.Sound.{sound}
 use Rattle.book.proofs.Laid.{Laid}
-use Rattle.book.specs.Calls.{report, reportSegment, Answer, figures, caseSays, segmentSays}
-use Rattle.book.specs.Refusal.{askedNumber, refusal}
+use Rattle.book.specs.Refusal.{refusal, questionRefusal}
 use Rattle.book.specs.Perform.{Arrays, lent, refusalAt}
 use Rattle.metanet.specs.Report.{caseFigures, segmentFigures}
 use Rattle.study.specs.Figures.{figureAt, figuresAt, stateFigures, Summable, Reportable, Showable}
@@ -41,32 +40,41 @@ use Rattle.book.proofs.Judging.{placed, size-high}
 use Rattle.book.proofs.Sounds.{laid, case-sound}
 use Rattle.book.proofs.Performing.{judged, accepted-sound}
 use Rattle.book.proofs.Network.{head-kept, segment-kept, size-word}
+use Rattle.book.specs.Calls.{question}
+use Rattle.book.specs.Question.{questionNumber, CaseQuestion, caseSays, segmentSays, ofCase, segment, figures, totals, Answer}
 
 -- ---- which row refuses
 
-row-first : (t : Bool) (k x y : ℕ) → row t (suc k) (first x y) ≡ first (row t (suc k) x) y
+-- 12, 21 and 23, then later rows
+rows-first : (s t u : Bool) (y : ℕ) → row s 12 (row t 21 (row u 23 y)) ≡ first (row s 12 (row t 21 (row u 23 0))) y
 unfolding row first
-row-first true k x y = refl
-row-first false k x y = refl
+rows-first true t u y = refl
+rows-first false true u y = refl
+rows-first false false true y = refl
+rows-first false false false y = refl
 
 module _ (words : List ℕ) (speeds : List Float) where
   abbrev a : Arrays
   a = lent words speeds
 
   module _ (k : ℕ) where
-    module _ (s : sound words speeds ≡ true) where
-      states : refusalAt (report k) a ≡ row (ltb 6 k) 21 (row (not (eqb k 0 || filledAt words k)) 23 0)
-      unfolding refusal askedNumber
-      states = judged (report k) words speeds refl s
+    -- which case: the rows before a question's own, of which totals has none
+    abbrev whichCase : ℕ
+    whichCase = refusalAt (question (ofCase k totals)) a
 
-      pub case-none : 6 < k → 21 ≡ refusalAt (report k) a
-      case-none l = sym (states ∙ row-applies _ _ _ (lt-ltb _ _ l))
+    module _ (s : sound words speeds ≡ true) where
+      rows : whichCase ≡ row (ltb 6 k) 21 (row (not (eqb k 0 || filledAt words k)) 23 0)
+      unfolding refusal questionRefusal questionNumber
+      rows = judged (question (ofCase k totals)) words speeds refl s
+
+      pub case-none : 6 < k → 21 ≡ whichCase
+      case-none l = sym (rows ∙ row-applies _ _ _ (lt-ltb _ _ l))
 
       module _ (l : k ≤ 6) where
-        later : refusalAt (report k) a ≡ row (not (eqb k 0 || filledAt words k)) 23 0
-        later = states ∙ row-skipped _ _ _ (le-ltb _ _ l)
+        later : whichCase ≡ row (not (eqb k 0 || filledAt words k)) 23 0
+        later = rows ∙ row-skipped _ _ _ (le-ltb _ _ l)
 
-        pub case-live : k ≡ 0 → 0 ≡ refusalAt (report k) a
+        pub case-live : k ≡ 0 → 0 ≡ whichCase
         case-live e = sym (later ∙ row-skipped _ _ _ (λ j. not (eq-eqb k 0 e j || filledAt words k)))
 
         module _ (slot : k ≡ 0 → ⊥) where
@@ -75,59 +83,75 @@ module _ (words : List ℕ) (speeds : List Float) where
               let low : 1 ≤ k = omega (arith, slot) in
               λ j. le-leb 1 k low j && le-leb k 6 l j && eqb (markAt words k) 1
 
-          tested : refusalAt (report k) a ≡ row (not (eqb (markAt words k) 1)) 23 0
+          tested : whichCase ≡ row (not (eqb (markAt words k) 1)) 23 0
           tested = later ∙ (λ j. row (not (ne-eqb k 0 slot j || marked j)) 23 0)
 
-          pub case-filled : markAt words k ≡ 1 → 0 ≡ refusalAt (report k) a
+          pub case-filled : markAt words k ≡ 1 → 0 ≡ whichCase
           case-filled e = sym (tested ∙ row-skipped _ _ _ (ap not (eq-eqb _ _ e)))
 
-          pub case-empty : (markAt words k ≡ 1 → ⊥) → 23 ≡ refusalAt (report k) a
+          pub case-empty : (markAt words k ≡ 1 → ⊥) → 23 ≡ whichCase
           case-empty e = sym (tested ∙ row-applies _ _ _ (ap not (ne-eqb _ _ e)))
 
-    -- an accepted report
-    module _ (z : refusalAt (report k) a ≡ 0) where
-      fine : sound words speeds ≡ true
-      fine = accepted-sound (report k) words speeds refl z
+    -- ---- any question about the case: the rows of "which case", then its own
+    module _ (q : CaseQuestion) where
+      abbrev asked : ℕ
+      asked = refusalAt (question (ofCase k q)) a
 
-      passed : row (ltb 6 k) 21 (row (not (eqb k 0 || filledAt words k)) 23 0) ≡ 0
-      passed = sym (states fine) ∙ z
+      asked-is : asked ≡ first whichCase (questionNumber (networkAt words) q)
+      unfolding refusalAt refusal questionRefusal questionNumber
+      asked-is = rows-first (not (sound words speeds)) (ltb 6 k) (not (eqb k 0 || filledAt words k)) (questionNumber (networkAt words) q)
 
-      pub reportable : Reportable words speeds (getD words 1 0) k
-      reportable =
-          record {
-            laid = subst (λ (n : ℕ). Laid words speeds n) (size-word words) (laid words speeds fine);
-            high = ltb-false _ _ (row-passed _ _ _ passed);
-            sound = case-sound words speeds fine k (not-false _ (row-passed _ _ _ (row-later _ _ _ passed)));
-          }
+      pub question-case : {r : ℕ} → r ≡ whichCase → (r ≡ 0 → ⊥) → r ≡ asked
+      question-case e some = e ∙ sym (asked-is ∙ first-some _ _ (λ z. some (e ∙ z)))
 
-      pub report-long : 2576 ≤ length words
-      report-long = omega (arith, reportable .laid .room)
+      pub question-judged : {r : ℕ} → whichCase ≡ 0 → r ≡ questionNumber (networkAt words) q → r ≡ asked
+      question-judged z e = e ∙ sym (asked-is ∙ first-zero _ _ z)
 
-    -- a report of segment i
+      -- what acceptance says
+      module _ (z : asked ≡ 0) where
+        fine : sound words speeds ≡ true
+        fine = accepted-sound (question (ofCase k q)) words speeds refl z
+
+        pub case-there : whichCase ≡ 0
+        case-there = first-zero-left _ _ (sym asked-is ∙ z)
+
+        pub question-taken : questionNumber (networkAt words) q ≡ 0
+        question-taken = first-zero-right whichCase _ (sym asked-is ∙ z)
+
+        passed : row (ltb 6 k) 21 (row (not (eqb k 0 || filledAt words k)) 23 0) ≡ 0
+        passed = sym (rows fine) ∙ case-there
+
+        pub reportable : Reportable words speeds (getD words 1 0) k
+        reportable =
+            record {
+              laid = subst (λ (n : ℕ). Laid words speeds n) (size-word words) (laid words speeds fine);
+              high = ltb-false _ _ (row-passed _ _ _ passed);
+              sound = case-sound words speeds fine k (not-false _ (row-passed _ _ _ (row-later _ _ _ passed)));
+            }
+
+        pub question-long : 2576 ≤ length words
+        question-long = omega (arith, reportable .laid .room)
+
+    -- ---- the segment asked for
     module _ (i : ℕ) where
-      with-segment : refusalAt (reportSegment k i) a ≡ first (refusalAt (report k) a) (row (outside 1 i (getD words 1 0)) 17 0)
-      unfolding refusalAt refusal
-      with-segment =
-          row-first _ _ _ _
-          ∙ ap (λ (n : ℕ). first (refusalAt (report k) a) (row (outside 1 i n) 17 0))
-          (ap (λ (h : Head). h .size) (head-kept (netOf words)) ∙ size-word words)
+      abbrev missing : Bool
+      missing = outside 1 i (getD words 1 0)
 
-      pub segment-case : {r : ℕ} → r ≡ refusalAt (report k) a → (r ≡ 0 → ⊥) → r ≡ refusalAt (reportSegment k i) a
-      segment-case e some = e ∙ sym (with-segment ∙ first-some _ _ (λ z. some (e ∙ z)))
+      segment-row : questionNumber (networkAt words) (segment i) ≡ row missing 17 0
+      unfolding questionNumber
+      segment-row =
+          ap (λ (n : ℕ). row (outside 1 i n) 17 0) (ap (λ (h : Head). h .size) (head-kept (netOf words)) ∙ size-word words)
 
-      module _ (z : refusalAt (report k) a ≡ 0) where
-        pub segment-none : outside 1 i (getD words 1 0) ≡ true → 17 ≡ refusalAt (reportSegment k i) a
-        segment-none e = sym (with-segment ∙ first-zero _ _ z ∙ row-applies _ _ _ e)
+      module _ (z : whichCase ≡ 0) where
+        pub segment-none : missing ≡ true → 17 ≡ asked (segment i)
+        segment-none e = question-judged (segment i) z (sym (segment-row ∙ row-applies _ _ _ e))
 
-        pub segment-there : outside 1 i (getD words 1 0) ≡ false → 0 ≡ refusalAt (reportSegment k i) a
-        segment-there e = sym (with-segment ∙ first-zero _ _ z ∙ row-skipped _ _ _ e)
+        pub segment-there : missing ≡ false → 0 ≡ asked (segment i)
+        segment-there e = question-judged (segment i) z (sym (segment-row ∙ row-skipped _ _ _ e))
 
-      module _ (z : refusalAt (reportSegment k i) a ≡ 0) where
-        pub segment-accepted : refusalAt (report k) a ≡ 0
-        segment-accepted = first-zero-left _ _ (sym with-segment ∙ z)
-
-        inside : outside 1 i (getD words 1 0) ≡ false
-        inside = row-passed _ _ _ (first-zero-right (refusalAt (report k) a) _ (sym with-segment ∙ z))
+      module _ (z : asked (segment i) ≡ 0) where
+        inside : missing ≡ false
+        inside = row-passed _ _ _ (sym segment-row ∙ question-taken (segment i) z)
 
         pub segment-low : 1 ≤ i
         segment-low = inside-low 1 i (getD words 1 0) inside

@@ -18,13 +18,14 @@ use Rattle.format.specs.Network.{networkFrom, segmentOf}
 use Rattle.metanet.specs.declared.Setting.{Setting}
 use Rattle.book.specs.Arrangement.{networkAt, sizeAt}
 use Rattle.book.specs.Sound.{sound}
-use Rattle.book.specs.Calls.{sign, meter}
 use Rattle.metanet.specs.Change.{complianceBad, complianceWord, signFor, signRefused, settingRefused}
-use Rattle.book.specs.Refusal.{refusal}
+use Rattle.book.specs.Refusal.{refusal, itemNumber}
 use Rattle.book.specs.Perform.{refusalAt, stateWord, lent}
 use Rattle.book.proofs.Judging.{size-high}
 use Rattle.book.proofs.Sounds.{laid}
 use Rattle.book.proofs.Performing.{judged, accepted-sound}
+use Rattle.book.specs.Calls.{item}
+use Rattle.metanet.specs.Line.{signed, metered}
 
 -- ---- compliance
 
@@ -76,55 +77,55 @@ module _ (words : List ℕ) (speeds : List Float) (i : ℕ) where
     -- ---- the rows of the table
 
     sign-judged : (limit : ℕ) (z : ℤ)
-        → refusalAt (sign i limit z) (lent words speeds) ≡ row (outside 1 i (sizeAt words)) 17 (row (signRefused limit z) 18 0)
-    unfolding refusal networkFrom
-    sign-judged limit z = judged (sign i limit z) words speeds refl s
+        → refusalAt (item (signed i limit z)) (lent words speeds) ≡ row (outside 1 i (sizeAt words)) 17 (row (signRefused limit z) 18 0)
+    unfolding refusal itemNumber networkFrom
+    sign-judged limit z = judged (item (signed i limit z)) words speeds refl s
 
     meter-judged : (m : Setting)
         → let w = segmentOf (networkAt words) (i - 1) in
-        refusalAt (meter i m) (lent words speeds)
+        refusalAt (item (metered i m)) (lent words speeds)
         ≡ row (outside 1 i (sizeAt words)) 17 (row (eqb i 1 || eqb (w .origin) 0) 19 (row (settingRefused (w .most) m) 20 0))
-    unfolding refusal networkFrom
-    meter-judged m = judged (meter i m) words speeds refl s
+    unfolding refusal itemNumber networkFrom
+    meter-judged m = judged (item (metered i m)) words speeds refl s
 
     module _ (limit : ℕ) (z : ℤ) where
-      pub sign-missing : outside 1 i (sizeAt words) ≡ true → 17 ≡ refusalAt (sign i limit z) (lent words speeds)
+      pub sign-missing : outside 1 i (sizeAt words) ≡ true → 17 ≡ refusalAt (item (signed i limit z)) (lent words speeds)
       sign-missing e = sym (sign-judged limit z ∙ row-applies _ _ _ e)
 
       module _ (there : outside 1 i (sizeAt words) ≡ false) where
-        later : refusalAt (sign i limit z) (lent words speeds) ≡ row (signRefused limit z) 18 0
+        later : refusalAt (item (signed i limit z)) (lent words speeds) ≡ row (signRefused limit z) 18 0
         later = sign-judged limit z ∙ row-skipped _ _ _ there
 
-        pub sign-bad : signRefused limit z ≡ true → 18 ≡ refusalAt (sign i limit z) (lent words speeds)
+        pub sign-bad : signRefused limit z ≡ true → 18 ≡ refusalAt (item (signed i limit z)) (lent words speeds)
         sign-bad e = sym (later ∙ row-applies _ _ _ e)
 
-        pub sign-taken : signRefused limit z ≡ false → 0 ≡ refusalAt (sign i limit z) (lent words speeds)
+        pub sign-taken : signRefused limit z ≡ false → 0 ≡ refusalAt (item (signed i limit z)) (lent words speeds)
         sign-taken e = sym (later ∙ row-skipped _ _ _ e)
 
     module _ (m : Setting) where
-      pub meter-missing : outside 1 i (sizeAt words) ≡ true → 17 ≡ refusalAt (meter i m) (lent words speeds)
+      pub meter-missing : outside 1 i (sizeAt words) ≡ true → 17 ≡ refusalAt (item (metered i m)) (lent words speeds)
       meter-missing e = sym (meter-judged m ∙ row-applies _ _ _ e)
 
       -- w is segment i, as the code read it
       module _ (there : outside 1 i (sizeAt words) ≡ false) {w : Segment} (is : w ≡ segmentOf (networkAt words) (i - 1)) where
-        ramps : refusalAt (meter i m) (lent words speeds) ≡ row (eqb i 1 || eqb (w .origin) 0) 19 (row (settingRefused (w .most) m) 20 0)
+        ramps : refusalAt (item (metered i m)) (lent words speeds) ≡ row (eqb i 1 || eqb (w .origin) 0) 19 (row (settingRefused (w .most) m) 20 0)
         ramps = rw is (meter-judged m ∙ row-skipped _ _ _ there)
 
-        pub meter-no-ramp : (eqb i 1 || eqb (w .origin) 0) ≡ true → 19 ≡ refusalAt (meter i m) (lent words speeds)
+        pub meter-no-ramp : (eqb i 1 || eqb (w .origin) 0) ≡ true → 19 ≡ refusalAt (item (metered i m)) (lent words speeds)
         meter-no-ramp e = sym (ramps ∙ row-applies _ _ _ e)
 
         module _ (ramp : (eqb i 1 || eqb (w .origin) 0) ≡ false) where
-          pub meter-bad : settingRefused (w .most) m ≡ true → 20 ≡ refusalAt (meter i m) (lent words speeds)
+          pub meter-bad : settingRefused (w .most) m ≡ true → 20 ≡ refusalAt (item (metered i m)) (lent words speeds)
           meter-bad e = sym (ramps ∙ row-skipped _ _ _ ramp ∙ row-applies _ _ _ e)
 
-          pub meter-taken : settingRefused (w .most) m ≡ false → 0 ≡ refusalAt (meter i m) (lent words speeds)
+          pub meter-taken : settingRefused (w .most) m ≡ false → 0 ≡ refusalAt (item (metered i m)) (lent words speeds)
           meter-taken e = sym (ramps ∙ row-skipped _ _ _ ramp ∙ row-skipped _ _ _ e)
 
   -- ---- what acceptance says
 
-  module _ (limit : ℕ) (z : ℤ) (e : refusalAt (sign i limit z) (lent words speeds) ≡ 0) where
+  module _ (limit : ℕ) (z : ℤ) (e : refusalAt (item (signed i limit z)) (lent words speeds) ≡ 0) where
     sign-sound : sound words speeds ≡ true
-    sign-sound = accepted-sound (sign i limit z) words speeds refl e
+    sign-sound = accepted-sound (item (signed i limit z)) words speeds refl e
 
     pub sign-within : StateWithin words i
     sign-within = state-within sign-sound (row-passed _ _ _ (sym (sign-judged sign-sound limit z) ∙ e))
@@ -132,7 +133,7 @@ module _ (words : List ℕ) (speeds : List Float) (i : ℕ) where
     pub sign-compliance : complianceBad z ≡ false
     sign-compliance = or-right (not (eqb limit 0) && outside 20 limit 200) (complianceBad z) (row-passed _ _ _ (row-later _ _ _ (sym (sign-judged sign-sound limit z) ∙ e)))
 
-  pub meter-within : (m : Setting) → refusalAt (meter i m) (lent words speeds) ≡ 0 → StateWithin words i
+  pub meter-within : (m : Setting) → refusalAt (item (metered i m)) (lent words speeds) ≡ 0 → StateWithin words i
   meter-within m e =
-      let s = accepted-sound (meter i m) words speeds refl e in
+      let s = accepted-sound (item (metered i m)) words speeds refl e in
       state-within s (row-passed _ _ _ (sym (meter-judged s m) ∙ e))

@@ -11,13 +11,14 @@ use Rattle.laws.proofs.First.{row-applies, row-skipped, row-passed}
 use Rattle.laws.proofs.Tests.{inside-low, inside-high}
 use Rattle.book.specs.Arrangement.{sizeAt, markAt, filledAt}
 use Rattle.book.specs.Sound.{sound}
-use Rattle.book.specs.Calls.{hold, recall, dropSlot, accepted}
-use Rattle.book.specs.Refusal.{slotMissing, refusal}
-use Rattle.book.specs.Perform.{Arrays, refusalAt, copiedWords, copiedSpeeds, storedWords, storedSpeeds, answerOf, lent, Performs}
+use Rattle.book.specs.Calls.{hold, recall, dropSlot}
+use Rattle.book.specs.Refusal.{slotMissing, refusal, slotRefusal}
+use Rattle.book.specs.Perform.{Arrays, refusalAt, copiedWords, copiedSpeeds, answerOf, lent, Performs, stored}
 use Rattle.book.proofs.Laid.{Laid}
 use Rattle.book.proofs.Network.{size-word}
 use Rattle.book.proofs.Sounds.{laid}
 use Rattle.book.proofs.Performing.{judged, accepts, accepted-sound}
+use Rattle.book.specs.Question.{accepted}
 
 module _ (words : List ℕ) (speeds : List Float) (k : ℕ) where
   abbrev a : Arrays
@@ -34,7 +35,7 @@ module _ (words : List ℕ) (speeds : List Float) (k : ℕ) where
     hold-missing m = sym (judged (hold k) words speeds refl s ∙ row-applies _ _ _ m)
 
     pub recall-missing : slotMissing k ≡ true → 21 ≡ refusalAt (recall k) a
-    unfolding refusal
+    unfolding refusal slotRefusal
     recall-missing m = sym (judged (recall k) words speeds refl s ∙ row-applies _ _ _ m)
 
     module _ (there : slotMissing k ≡ false) where
@@ -50,11 +51,11 @@ module _ (words : List ℕ) (speeds : List Float) (k : ℕ) where
       hold-free e = sym (judged (hold k) words speeds refl s ∙ row-skipped _ _ _ there ∙ row-skipped _ _ _ (marked (ne-eqb _ _ e)))
 
       pub recall-empty : (markAt words k ≡ 1 → ⊥) → 23 ≡ refusalAt (recall k) a
-      unfolding refusal
+      unfolding refusal slotRefusal
       recall-empty e = sym (judged (recall k) words speeds refl s ∙ row-skipped _ _ _ there ∙ row-applies _ _ _ (λ j. not (marked (ne-eqb _ _ e) j)))
 
       pub recall-filled : markAt words k ≡ 1 → 0 ≡ refusalAt (recall k) a
-      unfolding refusal
+      unfolding refusal slotRefusal
       recall-filled e = sym (judged (recall k) words speeds refl s ∙ row-skipped _ _ _ there ∙ row-skipped _ _ _ (λ j. not (marked (eq-eqb _ _ e) j)))
 
   -- ---- what acceptance says
@@ -72,7 +73,7 @@ module _ (words : List ℕ) (speeds : List Float) (k : ℕ) where
   hold-slot z = let s = accepted-sound (hold k) words speeds refl z in slot-at s (row-passed (slotMissing k) _ _ (sym (judged (hold k) words speeds refl s) ∙ z))
 
   pub recall-slot : refusalAt (recall k) a ≡ 0 → SlotAt
-  unfolding refusal
+  unfolding refusal slotRefusal
   recall-slot z = let s = accepted-sound (recall k) words speeds refl z in slot-at s (row-passed (slotMissing k) _ _ (sym (judged (recall k) words speeds refl s) ∙ z))
 
   -- ---- what an accepted call leaves
@@ -80,7 +81,7 @@ module _ (words : List ℕ) (speeds : List Float) (k : ℕ) where
   module _ {words' : List ℕ} {speeds' : List Float} {n : ℕ} (size : n ≡ sizeAt words) where
     pub held : refusalAt (hold k) a ≡ 0 → words' ≡ copiedWords n 0 k words → speeds' ≡ copiedSpeeds n 0 k speeds
         → Performs (hold k) words speeds accepted (set words' (2560 + k) 1) speeds'
-    unfolding storedWords storedSpeeds answerOf
+    unfolding stored answerOf
     held z p q =
         accepts (hold k) words speeds z refl
         (ap (λ (l : List ℕ). set l (2560 + k) 1) (p ∙ ap (λ (m : ℕ). copiedWords m 0 k words) size))
@@ -88,12 +89,12 @@ module _ (words : List ℕ) (speeds : List Float) (k : ℕ) where
 
     pub recalled : refusalAt (recall k) a ≡ 0 → words' ≡ copiedWords n k 0 words → speeds' ≡ copiedSpeeds n k 0 speeds
         → Performs (recall k) words speeds accepted words' speeds'
-    unfolding storedWords storedSpeeds answerOf
+    unfolding stored answerOf
     recalled z p q =
         accepts (recall k) words speeds z refl
         (p ∙ ap (λ (m : ℕ). copiedWords m k 0 words) size)
         (q ∙ ap (λ (m : ℕ). copiedSpeeds m k 0 speeds) size)
 
   pub dropped : refusalAt (recall k) a ≡ 0 → Performs (dropSlot k) words speeds accepted (set words (2560 + k) 0) speeds
-  unfolding storedWords storedSpeeds answerOf
+  unfolding stored answerOf
   dropped z = accepts (dropSlot k) words speeds (drop-as-recall ∙ z) refl refl refl

@@ -20,13 +20,14 @@ use Rattle.metanet.proofs.SoundLaws.{case-ready, case-total}
 use Rattle.metanet.proofs.SameNetwork.{step-number-from}
 use Rattle.book.specs.Arrangement.{caseWord, caseSpeed, networkAt, sizeAt, runCountAt, caseAt}
 use Rattle.book.specs.Sound.{sound}
-use Rattle.book.specs.Calls.{step}
-use Rattle.book.specs.Refusal.{refusal}
-use Rattle.book.specs.Perform.{lent, refusalAt, storedWords, storedSpeeds}
+use Rattle.book.specs.Refusal.{refusal, itemNumber}
+use Rattle.book.specs.Perform.{lent, refusalAt, stored, changed}
 use Rattle.book.proofs.Network.{size-word}
 use Rattle.book.proofs.Judging.{placed}
 use Rattle.book.proofs.Sounds.{laid, live-sound}
 use Rattle.book.proofs.Performing.{judged}
+use Rattle.book.specs.Calls.{item}
+use Rattle.metanet.specs.Line.{stepped}
 
 -- the live case stands first
 pub live-word : (n : ℕ) → caseWord n 0 ≡ 2576
@@ -48,24 +49,24 @@ module _ (words : List ℕ) (speeds : List Float) (ds : List ℕ) where
     same-number : (t : ℕ) → stepNumber (networkAt words .head) (entryOf (networkAt words)) (segmentOf (networkAt words)) t ds ≡ stepNumberIn net t ds
     same-number t = step-number-from (headIn net) (entryIn net) (segmentIn net) (λ i l. laid words speeds s .net .each i l .curve-high) t ds
 
-    number-is : refusalAt (step ds) (lent words speeds) ≡ first (stepNumberIn net stepsWord ds) (row (leb 1000000 (runCountAt words)) 16 0)
-    unfolding refusal
+    number-is : refusalAt (item (stepped ds)) (lent words speeds) ≡ first (stepNumberIn net stepsWord ds) (row (leb 1000000 (runCountAt words)) 16 0)
+    unfolding refusal itemNumber
     number-is =
-        judged (step ds) words speeds refl s
+        judged (item (stepped ds)) words speeds refl s
         ∙ ap (λ (x : ℕ). first x (row (leb 1000000 (runCountAt words)) 16 0)) (ap (λ (t : ℕ). stepNumber (networkAt words .head) (entryOf (networkAt words)) (segmentOf (networkAt words)) t ds) steps-are ∙ same-number stepsWord)
 
-    pub step-refused : {r : ℕ} → r ≡ stepNumberIn net stepsWord ds → (r ≡ 0 → ⊥) → r ≡ refusalAt (step ds) (lent words speeds)
+    pub step-refused : {r : ℕ} → r ≡ stepNumberIn net stepsWord ds → (r ≡ 0 → ⊥) → r ≡ refusalAt (item (stepped ds)) (lent words speeds)
     step-refused e some = e ∙ sym (number-is ∙ first-some _ _ (λ z. some (e ∙ z)))
 
     module _ (z : stepNumberIn net stepsWord ds ≡ 0) where
-      pub runs-spent : 1000000 ≤ runCountAt words → 16 ≡ refusalAt (step ds) (lent words speeds)
+      pub runs-spent : 1000000 ≤ runCountAt words → 16 ≡ refusalAt (item (stepped ds)) (lent words speeds)
       runs-spent l = sym (number-is ∙ first-zero _ _ z ∙ row-applies _ _ _ (le-leb _ _ l))
 
-      pub step-taken : runCountAt words < 1000000 → 0 ≡ refusalAt (step ds) (lent words speeds)
+      pub step-taken : runCountAt words < 1000000 → 0 ≡ refusalAt (item (stepped ds)) (lent words speeds)
       step-taken l = sym (number-is ∙ first-zero _ _ z ∙ row-skipped _ _ _ (lt-leb _ _ l))
 
     -- ---- what acceptance says
-    module _ (q : refusalAt (step ds) (lent words speeds) ≡ 0) where
+    module _ (q : refusalAt (item (stepped ds)) (lent words speeds) ≡ 0) where
       both : first (stepNumberIn net stepsWord ds) (row (leb 1000000 (runCountAt words)) 16 0) ≡ 0
       both = sym number-is ∙ q
 
@@ -94,14 +95,14 @@ module _ (words : List ℕ) (speeds : List Float) (ds : List ℕ) where
       step-long = omega (arith, laid words speeds s .room, size-word words)
 
   -- ---- what is stored, by those places
-  pub step-words : storedWords (step ds) (lent words speeds) ≡ set (stepCaseWords words speeds 2576 0 (getD words 1 0) ds) 2560 (runCountAt words + 1)
-  unfolding storedWords
+  pub step-words : stored (item (stepped ds)) (lent words speeds) .words ≡ set (stepCaseWords words speeds 2576 0 (getD words 1 0) ds) 2560 (runCountAt words + 1)
+  unfolding stored changed
   step-words =
       (λ j. set (stepCaseWords words speeds (live-word (sizeAt words) j) (zero-mul (sizeAt words) j) (sizeAt words) ds) 2560 (runCountAt words + 1))
       ∙ ap (λ (n : ℕ). set (stepCaseWords words speeds 2576 0 n ds) 2560 (runCountAt words + 1)) (size-word words)
 
-  pub step-speeds : storedSpeeds (step ds) (lent words speeds) ≡ stepCaseSpeeds words speeds 2576 0 (getD words 1 0) ds
-  unfolding storedSpeeds
+  pub step-speeds : stored (item (stepped ds)) (lent words speeds) .speeds ≡ stepCaseSpeeds words speeds 2576 0 (getD words 1 0) ds
+  unfolding stored changed
   step-speeds =
       (λ j. stepCaseSpeeds words speeds (live-word (sizeAt words) j) (zero-mul (sizeAt words) j) (sizeAt words) ds)
       ∙ ap (λ (n : ℕ). stepCaseSpeeds words speeds 2576 0 n ds) (size-word words)

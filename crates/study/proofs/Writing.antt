@@ -15,9 +15,9 @@ use Rattle.format.specs.Written.{fileOf}
 use Rattle.format.specs.Words.{headIn, networkIn, writeNumber, writeBytes}
 use Rattle.metanet.specs.Words.{netOf}
 use Rattle.book.specs.Sound.{sound}
-use Rattle.book.specs.Calls.{Answer, refused, figures}
 use Rattle.book.specs.Write.{writeRefusal, writtenBytes, writeAnswer}
 use Rattle.book.proofs.Sounds.{kept}
+use Rattle.book.specs.Question.{Answer, refused, figures}
 
 -- an answer, and the buffer afterwards, are what Write gives
 pub record Writes (words : List ℕ) (speeds : List Float) (out : List ℕ) (answer : Answer) (out' : List ℕ) : Type 0 where

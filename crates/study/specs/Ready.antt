@@ -10,6 +10,7 @@ use Rattle.format.specs.Words.{keptWords}
 use Rattle.metanet.specs.Case.{openState}
 use Rattle.metanet.specs.Words.{stateWords}
 use Rattle.metanet.specs.Start.{startSegmentNumber}
+use Rattle.book.specs.Arrangement.{startMarks}
 
 -- 14, of segment i, as the file's bytes say it
 abbrev pub startNumberOn : List ℕ → List ℕ → List ℕ → List ℕ → ℕ → ℕ
@@ -33,7 +34,7 @@ openWords mv queue most = stateWords (openState mv queue most nan)
 abbrev pub openWordsOn : List ℕ → List ℕ → List ℕ → ℕ → List ℕ
 openWordsOn b mvs queues i = openWords (getD mvs i 0) (getD queues i 0) (segmentOn b i .most)
 
--- the network, 16 words of run count and marks, the states and 8 words of totals
+-- the network, the 16 words of run count, marks and arrangement number, the states and 8 words of totals
 unfoldable pub beginWords : List ℕ → List ℕ → List ℕ → ℕ → List ℕ → List ℕ
 beginWords b mvs queues n words =
-    (keptWords (networkOf b) ++ replicate 16 0) ++ (parts (openWordsOn b mvs queues) n ++ (replicate 8 0 ++ drop (2584 + 16 * n) words))
+    (keptWords (networkOf b) ++ startMarks) ++ (parts (openWordsOn b mvs queues) n ++ (replicate 8 0 ++ drop (2584 + 16 * n) words))

@@ -7,6 +7,7 @@ ghost use Rattle.laws.specs.First.{firstOf};
 ghost use Rattle.laws.specs.Lists.{table, putPart, puts};
 ghost use Rattle.laws.specs.Real.{real};
 ghost use Rattle.format.specs.File.{fileNumber, headOf, segmentOn};
+ghost use Rattle.book.specs.Arrangement.{startMarks};
 ghost use Rattle.book.specs.Calls.{start};
 ghost use Rattle.metanet.specs.Start.{startSegmentNumber};
 ghost use Rattle.book.specs.Perform.{lent, refusalAt};
@@ -149,6 +150,32 @@ fn put_zeros(words: &mut [u64], at: usize, len: usize)
     arrays::put_words(&zeros, &mut words[at..at + len]);
 }
 
+// Writes run count 0, empty marks and the arrangement number.
+fn put_marks(words: &mut [u64])
+    requires { ⌜ 2576 ≤ length (now words) ⌝ }
+    ensures { λ _. ⌜ now (words .exit) ≡ putPart 2560 16 startMarks (now (words .entry)) ⌝ }
+{
+    let marks = [
+        0,
+        0,
+        0,
+        0,
+        0,
+        0,
+        0,
+        0,
+        0,
+        0,
+        0,
+        0,
+        0,
+        0,
+        0,
+        crate::ARRANGEMENT,
+    ];
+    arrays::put_words(&marks, &mut words[crate::RUN_WORD..crate::FIRST_CASE]);
+}
+
 // Writes the network, the run count and the marks, and the words of the live case.
 pub(crate) fn put_words(words: &mut [u64], file: &[u8], mvs: &[u32], queues: &[u32], n: usize)
     requires { ⌜ (fileNumber (now file) ≡ 0) × (n ≡ headOf (now file) .size) ⌝ }
@@ -156,7 +183,7 @@ pub(crate) fn put_words(words: &mut [u64], file: &[u8], mvs: &[u32], queues: &[u
     ensures { λ _. ⌜ now (words .exit) ≡ beginWords (now (file .entry)) (now (mvs .entry)) (now (queues .entry)) n (now (words .entry)) ⌝ }
 {
     network::keep(file, words);
-    put_zeros(words, crate::RUN_WORD, 16);
+    put_marks(words);
     put_states(words, file, mvs, queues, n);
     put_zeros(words, crate::FIRST_CASE + 16 * n, 8);
 }

@@ -51,12 +51,12 @@ fn slots_number(words: &[u64], speeds: &[f64], n: usize) -> u64
     0
 }
 
-// The cases and the run count of a study whose network and lengths are judged.
+// The run count, the arrangement number and the cases of a study whose network and lengths are judged.
 fn cases_number(words: &[u64], speeds: &[f64], n: usize) -> u64
     requires { ⌜ Laid (now words) (now speeds) n ⌝ }
     ensures { λ r. ⌜ r ≡ casesNumber (now (words .entry)) (now (speeds .entry)) ⌝ }
 {
-    if 1000000 < words[crate::RUN_WORD] {
+    if (1000000 < words[crate::RUN_WORD]) | (words[crate::ARRANGEMENT_WORD] != crate::ARRANGEMENT) {
         return 12;
     }
     let live = case_number_at(words, speeds, n, 0);

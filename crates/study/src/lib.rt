@@ -15,13 +15,19 @@ use book::Written;
 use metanet::Setting;
 ghost use mathlib.Core.Path.{_≡_};
 ghost use Rattle.book.specs.Sound.{sound};
-ghost use Rattle.book.specs.Calls.{start, sign, meter, step, hold, recall, dropSlot, report, reportSegment, reportRuns};
-ghost use Rattle.book.specs.Calls.{verdictSays, caseSays, segmentSays, runSays};
+ghost use Rattle.metanet.specs.Line.{signed, metered, stepped};
+ghost use Rattle.book.specs.Question.{totals, segment, ofCase, runCount, caseSays, segmentSays, runSays};
+ghost use Rattle.book.specs.Calls.{start, item, hold, recall, dropSlot, question, verdictSays};
 ghost use Rattle.book.specs.Perform.{Performs};
 ghost use Rattle.book.specs.Write.{writtenBytes, writeAnswer, writtenSays};
 
-// The word of the run count, k words before the mark of slot k; and the first word of the live case, before those of the slots.
+// The word of the run count, k words before the mark of slot k; that of the arrangement number, and this number; and the first word of
+// the live case, before those of the slots.
 pub(crate) const RUN_WORD: usize = network::NETWORK_WORDS;
+
+pub(crate) const ARRANGEMENT_WORD: usize = RUN_WORD + 15;
+
+pub(crate) const ARRANGEMENT: u64 = 1;
 
 pub(crate) const FIRST_CASE: usize = RUN_WORD + 16;
 
@@ -57,7 +63,7 @@ pub fn start(
 
 // Sets the sign of segment i, from 1: a limit in km/h, 0 where it is dark, with compliance in thousandths.
 pub fn sign(words: &mut [u64], speeds: &[f64], i: u64, limit: u64, compliance: i64) -> Verdict
-    ensures { λ r. ⌜ Performs (sign i limit compliance) (now (words .entry)) (now (speeds .entry)) (verdictSays r) (now (words .exit)) (now (speeds .entry)) ⌝ }
+    ensures { λ r. ⌜ Performs (item (signed i limit compliance)) (now (words .entry)) (now (speeds .entry)) (verdictSays r) (now (words .exit)) (now (speeds .entry)) ⌝ }
 {
     let r = refuse::sign_number(words, speeds, i, limit, compliance);
     if r != 0 {
@@ -70,7 +76,7 @@ pub fn sign(words: &mut [u64], speeds: &[f64], i: u64, limit: u64, compliance: i
 
 // Sets the ramp of segment i, from 1.
 pub fn meter(words: &mut [u64], speeds: &[f64], i: u64, setting: Setting) -> Verdict
-    ensures { λ r. ⌜ Performs (meter i setting) (now (words .entry)) (now (speeds .entry)) (verdictSays r) (now (words .exit)) (now (speeds .entry)) ⌝ }
+    ensures { λ r. ⌜ Performs (item (metered i setting)) (now (words .entry)) (now (speeds .entry)) (verdictSays r) (now (words .exit)) (now (speeds .entry)) ⌝ }
 {
     let r = refuse::meter_number(words, speeds, i, setting);
     if r != 0 {
@@ -84,7 +90,7 @@ pub fn meter(words: &mut [u64], speeds: &[f64], i: u64, setting: Setting) -> Ver
 
 // One step of the live case, with the arrivals of each segment in mv.
 pub fn step(words: &mut [u64], speeds: &mut [f64], arrivals: &[u32]) -> Verdict
-    ensures { λ r. ⌜ Performs (step (now (arrivals .entry))) (now (words .entry)) (now (speeds .entry)) (verdictSays r) (now (words .exit)) (now (speeds .exit)) ⌝ }
+    ensures { λ r. ⌜ Performs (item (stepped (now (arrivals .entry)))) (now (words .entry)) (now (speeds .entry)) (verdictSays r) (now (words .exit)) (now (speeds .exit)) ⌝ }
 {
     let r = refuse::step_number(words, speeds, arrivals);
     if r != 0 {
@@ -142,7 +148,7 @@ pub fn drop_slot(words: &mut [u64], speeds: &[f64], k: u64) -> Verdict
 
 // Report of case k: 0 is the live one, 1..6 are the slots.
 pub fn report(words: &[u64], speeds: &[f64], k: u64) -> CaseReport
-    ensures { λ r. ⌜ Performs (report k) (now (words .entry)) (now (speeds .entry)) (caseSays r) (now (words .entry)) (now (speeds .entry)) ⌝ }
+    ensures { λ r. ⌜ Performs (question (ofCase k totals)) (now (words .entry)) (now (speeds .entry)) (caseSays r) (now (words .entry)) (now (speeds .entry)) ⌝ }
 {
     let r = refuse::case_number(words, speeds, k);
     if r != 0 {
@@ -153,7 +159,7 @@ pub fn report(words: &[u64], speeds: &[f64], k: u64) -> CaseReport
 
 // Report of segment i, 1..n, of case k.
 pub fn report_segment(words: &[u64], speeds: &[f64], k: u64, i: u64) -> SegmentReport
-    ensures { λ r. ⌜ Performs (reportSegment k i) (now (words .entry)) (now (speeds .entry)) (segmentSays r) (now (words .entry)) (now (speeds .entry)) ⌝ }
+    ensures { λ r. ⌜ Performs (question (ofCase k (segment i))) (now (words .entry)) (now (speeds .entry)) (segmentSays r) (now (words .entry)) (now (speeds .entry)) ⌝ }
 {
     let r = refuse::segment_number(words, speeds, k, i);
     if r != 0 {
@@ -165,7 +171,7 @@ pub fn report_segment(words: &[u64], speeds: &[f64], k: u64, i: u64) -> SegmentR
 
 // The run count: accepted steps since Start.
 pub fn run_count(words: &[u64], speeds: &[f64]) -> RunReport
-    ensures { λ r. ⌜ Performs reportRuns (now (words .entry)) (now (speeds .entry)) (runSays r) (now (words .entry)) (now (speeds .entry)) ⌝ }
+    ensures { λ r. ⌜ Performs (question runCount) (now (words .entry)) (now (speeds .entry)) (runSays r) (now (words .entry)) (now (speeds .entry)) ⌝ }
 {
     if !sound(words, speeds) {
         return RunReport::Refused(12);

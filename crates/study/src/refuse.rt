@@ -2,8 +2,10 @@
 use crate::segment;
 use metanet::Setting;
 ghost use mathlib.Core.Path.{_≡_};
-ghost use Rattle.book.specs.Calls.{sign, meter, step, hold, recall, report, reportSegment};
 ghost use Rattle.metanet.specs.Change.{complianceBad, signRefused, settingRefused};
+ghost use Rattle.metanet.specs.Line.{signed, metered, stepped};
+ghost use Rattle.book.specs.Question.{totals, segment, ofCase};
+ghost use Rattle.book.specs.Calls.{item, hold, recall, question};
 ghost use Rattle.book.specs.Perform.{lent, refusalAt};
 
 fn compliance_bad(compliance: i64) -> bool
@@ -42,7 +44,7 @@ fn setting_bad(most: u64, setting: Setting) -> bool
 
 // Sign: 12, 17, 18.
 pub(crate) fn sign_number(words: &[u64], speeds: &[f64], i: u64, limit: u64, compliance: i64) -> u64
-    ensures { λ r. ⌜ r ≡ refusalAt (sign i limit compliance) (lent (now (words .entry)) (now (speeds .entry))) ⌝ }
+    ensures { λ r. ⌜ r ≡ refusalAt (item (signed i limit compliance)) (lent (now (words .entry)) (now (speeds .entry))) ⌝ }
 {
     if !crate::sound(words, speeds) {
         return 12;
@@ -58,7 +60,7 @@ pub(crate) fn sign_number(words: &[u64], speeds: &[f64], i: u64, limit: u64, com
 
 // Meter: 12, 17, 19, 20.
 pub(crate) fn meter_number(words: &[u64], speeds: &[f64], i: u64, setting: Setting) -> u64
-    ensures { λ r. ⌜ r ≡ refusalAt (meter i setting) (lent (now (words .entry)) (now (speeds .entry))) ⌝ }
+    ensures { λ r. ⌜ r ≡ refusalAt (item (metered i setting)) (lent (now (words .entry)) (now (speeds .entry))) ⌝ }
 {
     if !crate::sound(words, speeds) {
         return 12;
@@ -78,7 +80,7 @@ pub(crate) fn meter_number(words: &[u64], speeds: &[f64], i: u64, setting: Setti
 
 // Step: 12, 13, 15, 16.
 pub(crate) fn step_number(words: &[u64], speeds: &[f64], arrivals: &[u32]) -> u64
-    ensures { λ r. ⌜ r ≡ refusalAt (step (now (arrivals .entry))) (lent (now (words .entry)) (now (speeds .entry))) ⌝ }
+    ensures { λ r. ⌜ r ≡ refusalAt (item (stepped (now (arrivals .entry)))) (lent (now (words .entry)) (now (speeds .entry))) ⌝ }
 {
     if !crate::sound(words, speeds) {
         return 12;
@@ -131,9 +133,9 @@ pub(crate) fn recall_number(words: &[u64], speeds: &[f64], k: u64) -> u64
     0
 }
 
-// Report of case k: 21 no such slot; 23 an empty one. Case 0 is the live one.
+// A question about case k, before its own rows, of which totals has none: 12; 21 no such slot; 23 an empty one. Case 0 is the live one.
 pub(crate) fn case_number(words: &[u64], speeds: &[f64], k: u64) -> u64
-    ensures { λ r. ⌜ r ≡ refusalAt (report k) (lent (now (words .entry)) (now (speeds .entry))) ⌝ }
+    ensures { λ r. ⌜ r ≡ refusalAt (question (ofCase k totals)) (lent (now (words .entry)) (now (speeds .entry))) ⌝ }
 {
     if !crate::sound(words, speeds) {
         return 12;
@@ -152,7 +154,7 @@ pub(crate) fn case_number(words: &[u64], speeds: &[f64], k: u64) -> u64
 
 // Report of segment i of case k: 17 segment outside 1..n, after 21 and 23.
 pub(crate) fn segment_number(words: &[u64], speeds: &[f64], k: u64, i: u64) -> u64
-    ensures { λ r. ⌜ r ≡ refusalAt (reportSegment k i) (lent (now (words .entry)) (now (speeds .entry))) ⌝ }
+    ensures { λ r. ⌜ r ≡ refusalAt (question (ofCase k (segment i))) (lent (now (words .entry)) (now (speeds .entry))) ⌝ }
 {
     let r = case_number(words, speeds, k);
     if r != 0 {

@@ -6,9 +6,10 @@ use Rattle.laws.proofs.Lists.{span}
 use Rattle.laws.proofs.Puts.{part-changed}
 use Rattle.format.specs.Network.{segmentOf}
 use Rattle.book.specs.Arrangement.{networkAt}
-use Rattle.book.specs.Calls.{meter}
-use Rattle.book.specs.Perform.{refusalAt, stateWord, storedWords, storedSpeeds, answerOf, lent}
+use Rattle.book.specs.Calls.{meter, item}
+use Rattle.book.specs.Perform.{refusalAt, stateWord, answerOf, lent, changed, stored}
 use Rattle.metanet.specs.Words.{meteredWords}
+use Rattle.metanet.specs.Line.{metered}
 use Rattle.book.proofs.Performing.{refuses, accepts}
 use Rattle.study.proofs.Settings.{StateWithin, meter-within}
 use Rattle.study.proofs.meter.Statement.{statement}
@@ -17,7 +18,7 @@ use Rattle.study.proofs.meter.Tie as tie
 abbrev start : tie.Else1 → tie.Start
 start c = c .before .before .before .before .before
 
-accepted : (c : tie.Else1) → let a = start c .args in refusalAt (meter (a .i) (a .setting)) (lent (a .words .now) (a .speeds .now)) ≡ 0
+accepted : (c : tie.Else1) → let a = start c .args in refusalAt (item (metered (a .i) (a .setting))) (lent (a .words .now) (a .speeds .now)) ≡ 0
 accepted c = sym (c .before .meter-number .ensures) ∙ c .if1 .left
 
 within : (c : tie.Else1) → let a = start c .args in StateWithin (a .words .now) (a .i)
@@ -31,7 +32,7 @@ returns : tie.Need-returns
 returns c = refuses _ _ _ (c .before .meter-number .ensures) (c .if1 .taken)
 
 returns-2 : tie.Need-returns-2
-unfolding storedWords storedSpeeds answerOf
+unfolding stored changed answerOf
 returns-2 c =
     let e = c .before .before .before .before in
     let a = start (state-at e) .args in

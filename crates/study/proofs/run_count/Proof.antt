@@ -4,10 +4,11 @@ use mathlib.Core.Bool.{true}
 use native.Mathlib.Omega.{arith}
 use borrow.Author.Needs.{needs}
 use borrow.Author.Tests.{not-true, not-false}
-use Rattle.book.specs.Calls.{reportRuns}
+use Rattle.book.specs.Question.{runCount, figuresAsked}
+use Rattle.book.specs.Calls.{question}
 use Rattle.book.specs.Sound.{sound}
-use Rattle.book.specs.Refusal.{refusal}
-use Rattle.book.specs.Perform.{storedWords, storedSpeeds, answerOf}
+use Rattle.book.specs.Refusal.{refusal, questionRefusal}
+use Rattle.book.specs.Perform.{stored, answerOf}
 use Rattle.book.proofs.Sounds.{laid}
 use Rattle.book.proofs.Performing.{refuses, accepts, unsound, judged}
 use Rattle.study.proofs.run_count.Statement.{statement}
@@ -18,11 +19,11 @@ fine c = sym (c .before .sound .ensures) ∙ not-false _ (c .if1 .left)
 
 returns : tie.Need-returns
 returns c =
-    refuses reportRuns _ _ (unsound reportRuns _ _ refl (sym (c .before .sound .ensures) ∙ not-true _ (c .if1 .taken))) (λ z. omega (arith, z))
+    refuses (question runCount) _ _ (unsound (question runCount) _ _ refl (sym (c .before .sound .ensures) ∙ not-true _ (c .if1 .taken))) (λ z. omega (arith, z))
 
 returns-2 : tie.Need-returns-2
-unfolding refusal answerOf storedWords storedSpeeds
-returns-2 c = accepts reportRuns _ _ (judged reportRuns _ _ refl (fine (c .before))) refl refl refl
+unfolding refusal questionRefusal answerOf figuresAsked stored
+returns-2 c = accepts (question runCount) _ _ (judged (question runCount) _ _ refl (fine (c .before))) refl refl refl
 
 pub run-count-spec : {M : Type 1} → statement M
 run-count-spec =

@@ -6,9 +6,10 @@ use mir.ValLaws.{toZ-ofZ}
 use borrow.Author.Needs.{needs}
 use Rattle.laws.proofs.Lists.{span, length-part}
 use Rattle.laws.proofs.Puts.{part-changed}
-use Rattle.book.specs.Calls.{sign}
+use Rattle.metanet.specs.Line.{signed}
+use Rattle.book.specs.Calls.{item}
 use Rattle.metanet.specs.Change.{complianceBad}
-use Rattle.book.specs.Perform.{refusalAt, stateWord, storedWords, storedSpeeds, answerOf, lent}
+use Rattle.book.specs.Perform.{refusalAt, stateWord, answerOf, lent, changed, stored}
 use Rattle.metanet.specs.Words.{signedWords}
 use Rattle.book.proofs.Performing.{refuses, accepts}
 use Rattle.study.proofs.Settings.{StateWithin, sign-within, sign-compliance}
@@ -23,11 +24,11 @@ read : (s : tie.Start) → toZ w64 (ofZ w64 (s .args .compliance)) ≡ s .args .
 read s = toZ-ofZ w64 (s .args .compliance) (s .fits .compliance)
 
 number : (c : tie.After-sign-number)
-    → let a = start c .args in c .sign-number .result ≡ refusalAt (sign (a .i) (a .limit) (a .compliance)) (lent (a .words .now) (a .speeds .now))
+    → let a = start c .args in c .sign-number .result ≡ refusalAt (item (signed (a .i) (a .limit) (a .compliance))) (lent (a .words .now) (a .speeds .now))
 number c = rw (read (start c)) at (c .sign-number .ensures)
 
 accepted : (c : tie.Else1)
-    → let a = start (c .before) .args in refusalAt (sign (a .i) (a .limit) (a .compliance)) (lent (a .words .now) (a .speeds .now)) ≡ 0
+    → let a = start (c .before) .args in refusalAt (item (signed (a .i) (a .limit) (a .compliance))) (lent (a .words .now) (a .speeds .now)) ≡ 0
 accepted c = sym (number (c .before)) ∙ c .if1 .left
 
 within : (c : tie.Else1) → let a = start (c .before) .args in StateWithin (a .words .now) (a .i)
@@ -45,7 +46,7 @@ put-sign-requires c κs =
     (rw (span at 16) (length-part w at 16 (within d .room)), ap complianceBad (read s) ∙ sign-compliance _ _ _ _ _ (accepted d))
 
 returns-2 : tie.Need-returns-2
-unfolding storedWords storedSpeeds answerOf
+unfolding stored changed answerOf
 returns-2 c =
     let d = c .before .before .before .before in
     let s = start (d .before) in

@@ -6,7 +6,8 @@ use native.Mathlib.Omega.{arith}
 use Prim.Native.Nat.{ℕ, _+_}
 use lib.ListN.{getD, set}
 use borrow.Author.Needs.{needs}
-use Rattle.book.specs.Calls.{step}
+use Rattle.metanet.specs.Line.{stepped}
+use Rattle.book.specs.Calls.{item}
 use Rattle.book.specs.Sound.{sound}
 use Rattle.book.specs.Perform.{lent, refusalAt, answerOf}
 use Rattle.book.proofs.Performing.{refuses, accepts, accepted-sound}
@@ -17,14 +18,14 @@ use Rattle.study.proofs.step.Tie as tie
 abbrev start : tie.Else1 → tie.Start
 start c = c .before .before .before .before .before .before .before
 
-taken : (c : tie.Else1) → let a = start c .args in refusalAt (step (a .arrivals .now)) (lent (a .words .now) (a .speeds .now)) ≡ 0
+taken : (c : tie.Else1) → let a = start c .args in refusalAt (item (stepped (a .arrivals .now))) (lent (a .words .now) (a .speeds .now)) ≡ 0
 taken c = sym (c .before .step-number .ensures) ∙ c .if1 .left
 
 is-sound : (c : tie.Else1) → sound (start c .args .words .now) (start c .args .speeds .now) ≡ true
-is-sound c = accepted-sound (step (start c .args .arrivals .now)) _ _ refl (taken c)
+is-sound c = accepted-sound (item (stepped (start c .args .arrivals .now))) _ _ refl (taken c)
 
 returns : tie.Need-returns
-returns c = refuses (step _) _ _ (c .before .step-number .ensures) (c .if1 .taken)
+returns c = refuses (item (stepped _)) _ _ (c .before .step-number .ensures) (c .if1 .taken)
 
 returns-2 : tie.Need-returns-2
 unfolding answerOf
@@ -32,7 +33,7 @@ returns-2 c =
     let made = c .before .before .before .before in
     let d = made .before .before .before .before .before in
     let w : List ℕ = start d .args .words .now in
-    accepts (step _) _ _ (taken d) refl
+    accepts (item (stepped _)) _ _ (taken d) refl
     (ap (λ (l : List ℕ). set l 2560 (getD w 2560 0 + 1)) (made .step .ensures .0) ∙ sym (step-words _ _ _))
     (made .step .ensures .1 ∙ sym (step-speeds _ _ _))
 

@@ -4,7 +4,8 @@ use mathlib.Core.Bool.{true}
 use native.Mathlib.Omega.{arith}
 use borrow.Author.Needs.{needs}
 use borrow.Author.Tests.{not-true, not-false}
-use Rattle.book.specs.Calls.{report}
+use Rattle.book.specs.Question.{totals, ofCase}
+use Rattle.book.specs.Calls.{question}
 use Rattle.book.specs.Sound.{sound}
 use Rattle.book.proofs.Sounds.{laid}
 use Rattle.book.proofs.Performing.{unsound}
@@ -19,7 +20,7 @@ fine : (c : tie.Else1) → let a = start (c .before) .args in sound (a .words .n
 fine c = sym (c .before .sound .ensures) ∙ not-false _ (c .if1 .left)
 
 returns : tie.Need-returns
-returns c = unsound (report _) _ _ refl (sym (c .before .sound .ensures) ∙ not-true _ (c .if1 .taken))
+returns c = unsound (question (ofCase _ totals)) _ _ refl (sym (c .before .sound .ensures) ∙ not-true _ (c .if1 .taken))
 
 returns-2 : tie.Need-returns-2
 returns-2 c = case-none _ _ _ (fine (c .before)) (c .if2 .taken)

@@ -2,17 +2,18 @@
 use mathlib.Core.Path.{_≡_, sym, _∙_}
 use native.Mathlib.Omega.{arith}
 use borrow.Author.Needs.{needs}
-use Rattle.book.specs.Calls.{report}
+use Rattle.book.specs.Question.{totals, ofCase}
+use Rattle.book.specs.Calls.{question}
 use Rattle.book.specs.Perform.{lent, refusalAt}
-use Rattle.study.proofs.Reporting.{report-long, segment-case, segment-none, segment-there}
+use Rattle.study.proofs.Reporting.{question-long, question-case, segment-none, segment-there}
 use Rattle.study.proofs.refuse.segment_number.Statement.{statement}
 use Rattle.study.proofs.refuse.segment_number.Tie as tie
 
-accepted : (c : tie.Else1) → let a = c .before .before .before .before .args in refusalAt (report (a .k)) (lent (a .words .now) (a .speeds .now)) ≡ 0
+accepted : (c : tie.Else1) → let a = c .before .before .before .before .args in refusalAt (question (ofCase (a .k) totals)) (lent (a .words .now) (a .speeds .now)) ≡ 0
 accepted c = sym (c .before .case-number .ensures) ∙ c .if1 .left
 
 returns : tie.Need-returns
-returns c = segment-case _ _ _ _ (c .before .case-number .ensures) (c .if1 .taken)
+returns c = question-case _ _ _ _ (c .before .case-number .ensures) (c .if1 .taken)
 
 returns-2 : tie.Need-returns-2
 returns-2 c = segment-none _ _ _ _ (accepted (c .before .before)) (c .if2 .taken)
@@ -25,5 +26,5 @@ segment-number-spec =
     tie.close
     (tie.spec
     (λ c κs. search needs) returns
-    (λ c. omega (arith, report-long _ _ _ (accepted (c .before))))
+    (λ c. omega (arith, question-long _ _ _ _ (accepted (c .before))))
     returns-2 returns-3)

@@ -9,7 +9,8 @@ use borrow.Author.Needs.{needs}
 use borrow.Author.Tests.{not-true, not-false}
 use Rattle.metanet.specs.Words.{netOf}
 use Rattle.metanet.specs.Sound.{stepNumberIn}
-use Rattle.book.specs.Calls.{step}
+use Rattle.metanet.specs.Line.{stepped}
+use Rattle.book.specs.Calls.{item}
 use Rattle.book.specs.Sound.{sound}
 use Rattle.book.proofs.Network.{size-word}
 use Rattle.book.proofs.Judging.{size-high}
@@ -42,7 +43,7 @@ states c = let w = start (c .before .before .before .before) .args .words .now i
 returns : tie.Need-returns
 returns c =
     let s = c .before .before .before .before .before in
-    unsound (step (s .args .arrivals .now)) _ _ refl (sym (c .before .sound .ensures) ∙ not-true _ (c .if1 .taken))
+    unsound (item (stepped (s .args .arrivals .now))) _ _ refl (sym (c .before .sound .ensures) ∙ not-true _ (c .if1 .taken))
 
 net-part : tie.Need-slice-aggregate-step-number
 net-part c =

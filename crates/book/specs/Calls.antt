@@ -1,4 +1,4 @@
--- The calls on a study that demand 3 is about, and what a list of them holds.
+-- The calls on a study that demand 3 is about, and what is among the calls of a list.
 use Prim.Native.Nat.{ℕ, _+_}
 use mathlib.Core.Bool.{Bool, true, false, _&&_, _||_, not}
 use mathlib.Core.List.{List, [], _∷_}
@@ -21,7 +21,7 @@ pub data Call : Type 0 where
   dropSlot : ℕ → Call
   question : Question → Call
 
--- what a function says that is no question
+-- what the function of a call that is no question says
 abbrev pub verdictSays : Verdict → Answer
 verdictSays (verdict.Refused number) = refused number
 verdictSays verdict.Accepted = accepted
@@ -45,7 +45,7 @@ stepsBy = elim [ start file mvs speeds queues ↦ 0 | item i ↦ itemSteps i | h
 abbrev pub broughtBy : Call → ℕ
 broughtBy = elim [ start file mvs speeds queues ↦ networkOf file .head .size | item i ↦ 0 | hold k ↦ 0 | recall k ↦ 0 | dropSlot k ↦ 0 | question q ↦ 0 ]
 
--- ---- what a list of calls holds
+-- ---- what is among the calls of a list
 
 unfoldable pub noStart : List Call → Bool
 noStart [] = true

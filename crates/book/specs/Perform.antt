@@ -44,9 +44,9 @@ groundsAt a =
 unfoldable pub refusalAt : Call → Arrays → ℕ
 refusalAt c a = row (not (isStart c || sound (a .words) (a .speeds))) 12 (refusal c (groundsAt a))
 
--- ---- stores
+-- ---- what an accepted call stores
 
--- Start: the network; run count and marks; the live case. The slots' words stay as they came
+-- Start: the network; run count, marks and arrangement number; the live case. The slots' words stay as they came
 unfoldable pub startWords : Network → Case → List ℕ → List ℕ
 startWords w c words = let n = w .head .size in keptWords w ++ (startMarks ++ (caseWords n c ++ drop (caseWord n 1) words))
 
@@ -81,7 +81,7 @@ copiedSpeeds n j k speeds = putPart (caseSpeed n k) n (part (caseSpeed n j) n sp
 abbrev pub copied : ℕ → ℕ → Arrays → Arrays
 copied j k a = let n = sizeAt (a .words) in lent (copiedWords n j k (a .words)) (copiedSpeeds n j k (a .speeds))
 
--- the mark of slot k
+-- the arrays with this mark of slot k
 abbrev pub marked : ℕ → ℕ → Arrays → Arrays
 marked k mark a = lent (set (a .words) (markWord k) mark) (a .speeds)
 

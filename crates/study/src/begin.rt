@@ -155,24 +155,8 @@ fn put_marks(words: &mut [u64])
     requires { ⌜ 2576 ≤ length (now words) ⌝ }
     ensures { λ _. ⌜ now (words .exit) ≡ putPart 2560 16 startMarks (now (words .entry)) ⌝ }
 {
-    let marks = [
-        0,
-        0,
-        0,
-        0,
-        0,
-        0,
-        0,
-        0,
-        0,
-        0,
-        0,
-        0,
-        0,
-        0,
-        0,
-        crate::ARRANGEMENT,
-    ];
+    let mut marks = [0; 16];
+    marks[15] = crate::ARRANGEMENT;
     arrays::put_words(&marks, &mut words[crate::RUN_WORD..crate::FIRST_CASE]);
 }
 

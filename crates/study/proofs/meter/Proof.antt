@@ -6,7 +6,7 @@ use Rattle.laws.proofs.Lists.{span}
 use Rattle.laws.proofs.Puts.{part-changed}
 use Rattle.format.specs.Network.{segmentOf}
 use Rattle.book.specs.Arrangement.{networkAt}
-use Rattle.book.specs.Calls.{meter, item}
+use Rattle.book.specs.Calls.{item}
 use Rattle.book.specs.Perform.{refusalAt, stateWord, answerOf, lent, changed, stored}
 use Rattle.metanet.specs.Words.{meteredWords}
 use Rattle.metanet.specs.Line.{metered}

@@ -17,7 +17,6 @@ use Rattle.laws.proofs.First.{row-passed, row-later, row-skipped, first-some, f
 use Rattle.format.specs.Network.{networkFrom, entryOf, segmentOf, headBad, fieldThenSpeed, segmentNumber, rowsNumber, networkNumber}
 use Rattle.format.specs.File.{hasMark, versionOf, headOf, headPadding, headNumber, curveIn, curvesNumber, recordStart, segmentAt, recordPadding, recordNumber, recordsNumber, fileNumber, entryOn, segmentOn, networkOf}
 use Rattle.format.proofs.Accepted.{RowsWithin, Sized}
-use Rattle.format.specs.Statements.{HoldsWithin}
 use Rattle.format.proofs.Rows.{head-within, rows-within}
 use Rattle.format.proofs.From.{from-number}
 
@@ -110,9 +109,9 @@ module _ (b : List ℕ) where
       let z = a .records i l in
       row-skipped _ _ _ (or-left _ (recordPadding b (recordStart (headOf b) i)) (row-passed _ _ _ z)) ∙ row-later _ _ _ z
 
-  is-within : fileNumber b ≡ 0 → networkNumber (networkOf b) ≡ 0
+  pub network-accepted : fileNumber b ≡ 0 → networkNumber (networkOf b) ≡ 0
   unfolding rowsNumber
-  is-within z =
+  network-accepted z =
       let a = file-accepted b z in
       from-number (headOf b) (entryOn b) (segmentOn b)
       ∙ row-skipped _ _ _ (a .head .fields)
@@ -122,7 +121,4 @@ module _ (b : List ℕ) where
   -- every bound that the crates above need
   pub network-within : fileNumber b ≡ 0 → RowsWithin (headOf b) (entryOf (networkOf b)) (segmentOf (networkOf b))
   unfolding networkFrom
-  network-within z = rows-within _ _ _ (is-within z)
-
-pub network-accepted : HoldsWithin
-network-accepted = is-within
+  network-within z = rows-within _ _ _ (network-accepted z)

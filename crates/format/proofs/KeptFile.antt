@@ -6,7 +6,8 @@ use lib.ListN.{length}
 use native.Mathlib.Nat.{le-of-eq}
 use borrow.Author.Tests.{le-ltb}
 use Rattle.laws.proofs.First.{row-skipped}
-use Rattle.format.specs.Network.{networkFrom, networkNumber}
+use Rattle.format.specs.Network.{networkFrom}
+use Rattle.format.proofs.Accepted.{networkNumber}
 use Rattle.format.specs.File.{headOf, entryOn, segmentOn, fileNumber, networkOf}
 use Rattle.format.specs.Words.{headIn, entryIn, segmentIn, networkIn, keptNumber, keptWords}
 use Rattle.format.proofs.Accepted.{HeadWithin}

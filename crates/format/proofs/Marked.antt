@@ -3,7 +3,8 @@ use mathlib.Core.Path.{_≡_, refl}
 use Rattle.laws.specs.First.{row, first, firstOf, anyOf}
 use Rattle.laws.specs.Lists.{parts}
 use Rattle.laws.specs.BigEndian.{u32Bytes}
-use Rattle.format.specs.Network.{headBad, rising, curveNumber, segmentBad, fieldThenSpeed, segmentNumber, rowsNumber, networkNumber}
+use Rattle.format.specs.Network.{headBad, rising, curveNumber, segmentBad, fieldThenSpeed, segmentNumber, rowsNumber}
+use Rattle.format.proofs.Accepted.{networkNumber}
 use Rattle.format.specs.File.{headNumber, curvesNumber, recordNumber, recordsNumber, fileNumber}
 use Rattle.format.specs.Written.{headBytes, segmentBytes, fileOf}
 use Rattle.format.specs.Marked.{oneSegment, SpeedLimitCase}

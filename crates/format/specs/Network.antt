@@ -96,6 +96,3 @@ rowsNumber h entry segment =
     row (headBad h) 4
     (first (firstOf (λ k. curveNumber (entry k)) (h .curves))
     (firstOf (segmentNumber h entry segment) (h .size)))
-
-abbrev pub networkNumber : Network → ℕ
-networkNumber w = rowsNumber (w .head) (entryOf w) (segmentOf w)

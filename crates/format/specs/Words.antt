@@ -1,4 +1,4 @@
--- A network kept in 2,560 words, a word a number (docs/ARRANGEMENT.md): how a file's network is kept, and the file written from it.
+-- A network kept in 2,560 words, a word a number (docs/ARRANGEMENT.md): what they hold, and the words of a network.
 use Prim.Native.Nat.{ℕ, _+_, _-_, _*_}
 use mathlib.Core.List.{List, _∷_, _++_}
 use lib.ListN.{length, getD, replicate}

@@ -69,6 +69,10 @@ module _ {A : Type 0} {l held : List A} {from to len : ℕ} (p : Parts l held fr
     held-part : take len (ys ++ drop len held) ≡ part from len l
     held-part = take-at ys (drop len held) len (ap length is-part ∙ length-part l from len (p .first)) ∙ is-part
 
+    -- the list held afterwards
+    pub held-after : ys ++ drop len held ≡ part from len l ++ drop len held
+    held-after = ap (λ (front : List A). front ++ drop len held) is-part
+
     pub held-length : length (take len (ys ++ drop len held)) ≡ len
     held-length = ap length held-part ∙ length-part l from len (p .first)
 

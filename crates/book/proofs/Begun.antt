@@ -8,7 +8,8 @@ use lib.ListN.{length}
 use borrow.Author.Tests.{le-ltb}
 use Rattle.laws.specs.First.{row}
 use Rattle.laws.proofs.First.{row-skipped, first-zero}
-use Rattle.format.specs.Network.{Network, networkNumber, Formed}
+use Rattle.format.specs.Network.{Network}
+use Rattle.format.proofs.Accepted.{networkNumber, Formed}
 use Rattle.format.specs.File.{networkOf}
 use Rattle.format.specs.Written.{fileOf}
 use Rattle.format.proofs.Reading.{read-back, file-accepted-of}

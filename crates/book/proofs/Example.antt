@@ -7,7 +7,8 @@ use lib.Ieee.{add, sub, mul, div, lt, le, ofInt, toUnsigned, toBits}
 use lib.ListN.{length, getD}
 use Rattle.laws.specs.First.{row, first, firstOf, anyOf}
 use Rattle.laws.specs.Sums.{sumOf}
-use Rattle.format.specs.Network.{Network, networkNumber, headBad, rising, curveNumber, segmentBad, fieldThenSpeed, segmentNumber, rowsNumber, Formed}
+use Rattle.format.specs.Network.{Network, headBad, rising, curveNumber, segmentBad, fieldThenSpeed, segmentNumber, rowsNumber}
+use Rattle.format.proofs.Accepted.{networkNumber, Formed}
 use Rattle.format.specs.Marked.{oneSegment}
 use Rattle.metanet.specs.Case.{Case}
 use Rattle.metanet.specs.Marked.{tallies}

@@ -6,7 +6,8 @@ use native.Mathlib.Omega.{arith}
 use lib.ListN.{length, getD}
 use Rattle.laws.specs.First.{row, first, firstOf, anyOf}
 use Rattle.laws.specs.Lists.{table}
-use Rattle.format.specs.Network.{networkNumber, headBad, rising, curveNumber, segmentBad, fieldThenSpeed, segmentNumber, rowsNumber, Formed}
+use Rattle.format.proofs.Accepted.{networkNumber, Formed}
+use Rattle.format.specs.Network.{headBad, rising, curveNumber, segmentBad, fieldThenSpeed, segmentNumber, rowsNumber}
 use Rattle.metanet.specs.Sound.{arrivalNumber, stepNumber}
 use Rattle.metanet.specs.Start.{startSegmentNumber, startNumber}
 use Rattle.metanet.specs.Line.{stepsOf}

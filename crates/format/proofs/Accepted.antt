@@ -1,12 +1,23 @@
 -- What acceptance says, as records whose fields the crates above read.
 use Prim.Native.Nat.{ℕ, _+_, _*_, _≤_, _<_}
 use mathlib.Core.Path.{_≡_}
-use mathlib.Core.List.{List}
-use lib.ListN.{length}
+use mathlib.Core.List.{List, []}
+use lib.ListN.{length, getD}
 use Rattle.format.specs.declared.Head.{Head}
 use Rattle.format.specs.declared.Segment.{Segment}
+use Rattle.format.specs.Network.{Network, entryOf, segmentOf, rowsNumber}
 use Rattle.format.specs.File.{fileSize}
 use Rattle.format.specs.Words.{entryIn}
+
+-- the lists of a network are as long as its head says
+pub record Formed (w : Network) : Type 0 where
+  pub curves : length (w .curves) ≡ w .head .curves
+  pub entries : (k : ℕ) → k < w .head .curves → length (getD (w .curves) k []) ≡ 201
+  pub segments : length (w .segments) ≡ w .head .size
+
+-- rows 4, 6, 7 and 8 of a network
+abbrev pub networkNumber : Network → ℕ
+networkNumber w = rowsNumber (w .head) (entryOf w) (segmentOf w)
 
 -- row 4
 pub record HeadWithin (h : Head) : Type 0 where

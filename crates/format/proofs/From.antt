@@ -12,7 +12,9 @@ use Rattle.laws.proofs.First.{firstOf-ext}
 use Rattle.laws.proofs.Lists.{length-table, getD-table, table-of}
 use Rattle.format.specs.declared.Head.{Head}
 use Rattle.format.specs.declared.Segment.{Segment}
-use Rattle.format.specs.Network.{Network, networkFrom, noSegment, entryOf, segmentOf, headBad, rising, curveNumber, segmentBad, fieldThenSpeed, segmentNumber, rowsNumber, networkNumber, Formed}
+use Rattle.format.specs.Network.{Network, networkFrom, noSegment, entryOf, segmentOf, headBad, rising, curveNumber, segmentBad, fieldThenSpeed, segmentNumber, rowsNumber}
+use Rattle.format.proofs.Accepted.{networkNumber}
+use Rattle.format.proofs.Accepted.{Formed}
 use Rattle.format.proofs.Rows.{segment-within}
 
 -- ---- the rows of two networks with one head that agree on what the head says is there

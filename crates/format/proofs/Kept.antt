@@ -10,8 +10,9 @@ use Rattle.laws.specs.Lists.{table, part, parts}
 use Rattle.laws.proofs.Lists.{length-table, getD-table, length-parts, parts-at, part-at}
 use Rattle.format.specs.declared.Head.{Head}
 use Rattle.format.specs.declared.Segment.{Segment}
-use Rattle.format.specs.Network.{Network, networkFrom, entryOf, segmentOf, Formed}
+use Rattle.format.specs.Network.{Network, networkFrom, entryOf, segmentOf}
 use Rattle.format.specs.Words.{segmentWord, headIn, entryIn, segmentIn, networkIn, headWords, segmentWords, keptWords}
+use Rattle.format.proofs.Accepted.{Formed}
 use Rattle.format.proofs.From.{from-held}
 
 pub length-head-words : (h : Head) → length (headWords h) ≡ 16

@@ -3,7 +3,6 @@ pub mod Broken
 pub mod CurveCall
 pub mod File
 pub mod From
-pub mod KeepCall
 pub mod Keeping
 pub mod Kept
 pub mod KeptFile
@@ -13,5 +12,3 @@ pub mod Placed
 pub mod Reading
 pub mod RoundTrip
 pub mod Rows
-pub mod RuleLists
-pub mod Writing

@@ -17,15 +17,22 @@ use Rattle.laws.proofs.Lists.{parts-at, length-parts}
 use Rattle.laws.proofs.BigEndian.{low-byte, two-back, four-back, length-u32, u32-back, part-u32}
 use Rattle.format.specs.declared.Head.{Head}
 use Rattle.format.specs.declared.Segment.{Segment}
-use Rattle.format.specs.Network.{Network, networkFrom, entryOf, segmentOf, headBad, segmentBad, fieldThenSpeed, segmentNumber, networkNumber, Formed}
+use Rattle.format.specs.Network.{Network, networkFrom, entryOf, segmentOf, headBad, segmentBad, fieldThenSpeed, segmentNumber}
+use Rattle.format.proofs.Accepted.{networkNumber}
+use Rattle.format.proofs.Accepted.{Formed, SegmentWithin, RowsWithin}
 use Rattle.format.specs.File.{headOf, hasMark, versionOf, headPadding, fileSize, headNumber, curveStart, entryAt, recordStart, segmentAt, recordPadding, entryOn, segmentOn, curveIn, curvesNumber, recordNumber, recordsNumber, fileNumber, networkOf}
-use Rattle.format.specs.Statements.{ReadsBack, FileAccepted}
 use Rattle.format.specs.Written.{headBytes, segmentBytes, fileOf}
-use Rattle.format.proofs.Accepted.{SegmentWithin, RowsWithin}
 use Rattle.format.proofs.Rows.{rows-within, entry-high, head-passed, curves-passed, segments-passed}
 use Rattle.format.proofs.File.{segment-part, padding-part}
 use Rattle.format.proofs.From.{from-held, curve-same}
-use Rattle.format.proofs.Writing.{length-head-bytes, length-segment-bytes}
+
+pub length-head-bytes : (h : Head) → length (headBytes h) ≡ 16
+unfolding headBytes
+length-head-bytes h = refl
+
+pub length-segment-bytes : (s : Segment) → length (segmentBytes s) ≡ 16
+unfolding segmentBytes
+length-segment-bytes s = refl
 
 -- ---- one record: a segment within row 7 is read back from its own 16 bytes
 
@@ -123,8 +130,8 @@ module _ (w : Network) (z : networkNumber w ≡ 0) where
   segment-on : (i : ℕ) → i < h .size → segmentOn (fileOf w) i ≡ segmentOf w i
   segment-on i l = ap (λ (g : Head). segmentAt (fileOf w) (recordStart g i)) head-back ∙ segment-is i l
 
-  reads-back : Formed w → networkOf (fileOf w) ≡ w
-  reads-back f =
+  pub read-back : Formed w → networkOf (fileOf w) ≡ w
+  read-back f =
       ap (λ (g : Head). networkFrom g (entryOn (fileOf w)) (segmentOn (fileOf w))) head-back
       ∙ from-held w f (entryOn (fileOf w)) (segmentOn (fileOf w)) entry-is segment-on
 
@@ -178,16 +185,10 @@ module _ (w : Network) (z : networkNumber w ≡ 0) where
       ∙ sym (λ j. fieldThenSpeed (seven j) h (entryOf w (s .curve) 0) s)
       ∙ passed
 
-  is-accepted : fileNumber (fileOf w) ≡ 0
+  pub file-accepted-of : fileNumber (fileOf w) ≡ 0
   unfolding fileNumber curvesNumber recordsNumber
-  is-accepted =
+  file-accepted-of =
       first-zero _ _ head-number
       ∙ first-zero _ _ (firstOf-all (curveIn (fileOf w)) _ curve-number)
       ∙ ap (λ (g : Head). firstOf (recordNumber (fileOf w) g) (g .size)) head-back
       ∙ firstOf-all (recordNumber (fileOf w) h) (h .size) record-number
-
-pub read-back : ReadsBack
-read-back = reads-back
-
-pub file-accepted-of : FileAccepted
-file-accepted-of = is-accepted

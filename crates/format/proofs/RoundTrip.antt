@@ -17,8 +17,7 @@ use Rattle.laws.proofs.Lists.{listed, part-listed, parts-of, three-parts}
 use Rattle.laws.proofs.BigEndian.{low-byte, two-high, two-low, u32-written}
 use Rattle.format.specs.Network.{networkFrom, entryOf, segmentOf, segmentBad, fieldThenSpeed}
 use Rattle.format.specs.File.{headOf, curveStart, recordStart, segmentAt, recordPadding, recordNumber, fileNumber, entryOn, segmentOn, networkOf}
-use Rattle.format.specs.Statements.{WritesBack}
-use Rattle.format.specs.Written.{headBytes, segmentBytes, fileOf}
+use Rattle.format.specs.Written.{headBytes, segmentBytes, fileOf, RoundTrip}
 use Rattle.format.proofs.File.{FileAccepted, HeadAccepted, file-accepted}
 use Rattle.format.proofs.From.{from-entry, from-segment}
 
@@ -116,5 +115,5 @@ module _ (b : List ℕ) (bs : Bytes b) where
       let a = file-accepted b z in
       simp (head-bytes (a .head), curves-bytes a, segments-bytes a) (three-parts b 16 (804 * headOf b .curves))
 
-pub round-trip : WritesBack
+pub round-trip : RoundTrip
 round-trip = writes-back

@@ -5,5 +5,4 @@ pub mod Written
 pub mod Words
 pub mod Place
 pub mod Placed
-pub mod Statements
 pub mod Marked

@@ -1,9 +1,8 @@
 -- A network, and the rows of the table that judge its numbers: 4, 6, 7 and 8.
-use Prim.Native.Nat.{ℕ, _+_, _*_, _<_}
-use mathlib.Core.Path.{_≡_}
+use Prim.Native.Nat.{ℕ, _+_, _*_}
 use mathlib.Core.Bool.{Bool, _&&_}
 use mathlib.Core.List.{List, [], _∷_}
-use lib.ListN.{length, getD}
+use lib.ListN.{getD}
 use lib.Dec.{ltb, leb, eqb}
 use Rattle.laws.specs.First.{anyOf, outside, row, first, firstOf}
 use Rattle.laws.specs.Lists.{table}
@@ -97,12 +96,3 @@ rowsNumber h entry segment =
     row (headBad h) 4
     (first (firstOf (λ k. curveNumber (entry k)) (h .curves))
     (firstOf (segmentNumber h entry segment) (h .size)))
-
-abbrev pub networkNumber : Network → ℕ
-networkNumber w = rowsNumber (w .head) (entryOf w) (segmentOf w)
-
--- its lists are as long as its head says
-pub record Formed (w : Network) : Type 0 where
-  pub curves : length (w .curves) ≡ w .head .curves
-  pub entries : (k : ℕ) → k < w .head .curves → length (getD (w .curves) k []) ≡ 201
-  pub segments : length (w .segments) ≡ w .head .size

@@ -1,16 +1,13 @@
--- A network kept in 2,560 words, a word a number (docs/ARRANGEMENT.md): how a file's network is kept, and the file written from it.
+-- A network kept in 2,560 words, a word a number (docs/ARRANGEMENT.md): what they hold, and the words of a network.
 use Prim.Native.Nat.{ℕ, _+_, _-_, _*_}
-use mathlib.Core.Bool.{_||_}
 use mathlib.Core.List.{List, _∷_, _++_}
-use lib.ListN.{length, getD, drop, replicate}
+use lib.ListN.{length, getD, replicate}
 use lib.Dec.{ltb}
-use Rattle.laws.specs.First.{row, first, ifAccepted}
+use Rattle.laws.specs.First.{row}
 use Rattle.laws.specs.Lists.{table, parts}
 use Rattle.format.specs.declared.Head.{Head}
 use Rattle.format.specs.declared.Segment.{Segment}
 use Rattle.format.specs.Network.{Network, networkFrom, entryOf, segmentOf, rowsNumber}
-use Rattle.format.specs.File.{headOf, networkOf, fileSize}
-use Rattle.format.specs.Written.{fileOf}
 
 -- ---- places; curves, entries and segments are counted from 0
 
@@ -64,16 +61,7 @@ networkIn ws = networkFrom (headIn ws) (entryIn ws) (segmentIn ws)
 unfoldable pub keptNumber : List ℕ → ℕ
 keptNumber ws = row (ltb (length ws) networkWords) 11 (rowsNumber (headIn ws) (entryIn ws) (segmentIn ws))
 
--- ---- Write: the stored network into a byte buffer; later bytes stay
-
--- 24 buffer too short
-unfoldable pub writeNumber : List ℕ → List ℕ → ℕ
-writeNumber ws out = first (keptNumber ws) (row (ltb (length out) (fileSize (headIn ws))) 24 0)
-
-unfoldable pub writeBytes : List ℕ → List ℕ → List ℕ
-writeBytes ws out = ifAccepted (writeNumber ws out) (fileOf (networkIn ws) ++ drop (fileSize (headIn ws)) out) out
-
--- ---- Start: the network of a file into the words; later words stay
+-- ---- the words of a network
 
 -- the head's 16 words; those that are free are 0
 unfoldable pub headWords : Head → List ℕ
@@ -93,10 +81,3 @@ keptWords w =
     headWords (w .head)
     ++ (parts (λ k. table (entryOf w k) 201) (w .head .curves) ++ (replicate (1608 - 201 * w .head .curves) 0
     ++ (parts (λ i. segmentWords (segmentOf w i)) (w .head .size) ++ replicate (936 - 16 * w .head .size) 0)))
-
--- 4 no room for the curves or the segments that the head says; 11 arrays too short
-unfoldable pub keepNumber : List ℕ → List ℕ → ℕ
-keepNumber b ws = row (ltb 8 (headOf b .curves) || ltb 40 (headOf b .size)) 4 (row (ltb (length ws) networkWords) 11 0)
-
-unfoldable pub keepWords : List ℕ → List ℕ → List ℕ
-keepWords b ws = ifAccepted (keepNumber b ws) (keptWords (networkOf b) ++ drop networkWords ws) ws

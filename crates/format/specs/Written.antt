@@ -1,13 +1,14 @@
 -- The file of a network. A number that does not fit its field loses its upper bytes; none does in a network within rows 4, 6, 7 and 8.
 use Prim.Native.Nat.{ℕ, _/_}
 use mathlib.Core.List.{List, [], _∷_, _++_}
+use mathlib.Core.Path.{_≡_}
 use lib.ListN.{getD}
 use Rattle.laws.specs.Lists.{parts}
-use Rattle.laws.specs.BigEndian.{low, u32Bytes}
+use Rattle.laws.specs.BigEndian.{Bytes, low, u32Bytes}
 use Rattle.format.specs.declared.Head.{Head}
 use Rattle.format.specs.declared.Segment.{Segment}
 use Rattle.format.specs.Network.{Network, entryOf, segmentOf}
-use Rattle.format.specs.File.{mark}
+use Rattle.format.specs.File.{mark, networkOf, fileNumber}
 
 -- the mark is written back
 unfoldable pub headBytes : Head → List ℕ
@@ -36,3 +37,7 @@ fileOf w =
     headBytes (w .head)
     ++ (parts (λ k. parts (λ j. u32Bytes (entryOf w k j)) 201) (w .head .curves)
     ++ parts (λ i. segmentBytes (segmentOf w i)) (w .head .size))
+
+-- an accepted network writes back to the same bytes
+abbrev pub RoundTrip : Type 0
+RoundTrip = (b : List ℕ) → Bytes b → fileNumber b ≡ 0 → fileOf (networkOf b) ≡ b

@@ -1,5 +1,8 @@
 // The fields of the head, by the rules of row 4.
 use crate::print;
+ghost use mathlib.Core.Path.{_≡_};
+ghost use lib.ListN.{getD};
+ghost use Rattle.inspect.specs.Values.{headValues};
 
 fn name(rule: u64) {
     match rule {
@@ -27,20 +30,27 @@ fn right(rule: u64) {
     }
 }
 
-fn value(file: &[u8], rule: u64) -> u64 {
+// The value that a rule is about.
+fn value(file: &[u8], rule: u64) -> u64
+    ensures { λ r. ⌜ r ≡ getD (headValues (now (file .entry))) rule 0 ⌝ }
+{
     let h = network::head_of(file);
-    match rule {
-        0 => h.step,
-        1 => h.size,
-        2 => h.curves,
-        3 => h.tau,
-        4 => h.nu,
-        5 => h.kappa,
-        6 => h.delta,
-        7 => network::byte_of(file, 11),
-        8 => network::byte_of(file, 14),
-        _ => network::byte_of(file, 15),
+    let values = [
+        h.step,
+        h.size,
+        h.curves,
+        h.tau,
+        h.nu,
+        h.kappa,
+        h.delta,
+        network::byte_of(file, 11),
+        network::byte_of(file, 14),
+        network::byte_of(file, 15),
+    ];
+    if rule < 10 {
+        return values[rule as usize];
     }
+    0
 }
 
 // The field, its value and what it must be.

@@ -1,5 +1,8 @@
 // The fields of a segment's record, by the rules of row 7.
 use crate::print;
+ghost use mathlib.Core.Path.{_≡_};
+ghost use lib.ListN.{getD};
+ghost use Rattle.inspect.specs.Values.{recordValues};
 
 fn name(rule: u64) {
     match rule {
@@ -33,18 +36,31 @@ fn right(h: format::Head, s: format::Segment, rule: u64) {
     }
 }
 
-fn value(s: format::Segment, byte: u64, rule: u64) -> u64 {
-    match rule {
-        0 => s.metres,
-        1 => s.lanes,
-        2 => s.curve,
-        3 | 4 => s.critical,
-        5 => s.jam,
-        6 | 7 => s.origin,
-        8 | 9 => s.exit,
-        10 | 11 => s.most,
-        _ => byte,
+// The value that a rule is about; byte is what stands at the place.
+fn value(s: format::Segment, byte: u64, rule: u64) -> u64
+    ensures { λ r. ⌜ r ≡ getD (recordValues s byte) rule 0 ⌝ }
+{
+    let values = [
+        s.metres,
+        s.lanes,
+        s.curve,
+        s.critical,
+        s.critical,
+        s.jam,
+        s.origin,
+        s.origin,
+        s.exit,
+        s.exit,
+        s.most,
+        s.most,
+        byte,
+        byte,
+        byte,
+    ];
+    if rule < 15 {
+        return values[rule as usize];
     }
+    0
 }
 
 // Which segment, counted from 1.

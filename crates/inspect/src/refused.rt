@@ -2,9 +2,16 @@
 use crate::head;
 use crate::print;
 use crate::record;
+ghost use mathlib.Core.Path.{_≡_};
+ghost use lib.Dec.{ltb};
+ghost use Rattle.laws.specs.First.{row};
+ghost use Rattle.laws.specs.BigEndian.{byteAt};
+ghost use Rattle.format.specs.File.{entryOn};
 
 // The byte at a place, and 0 past any file that is read.
-fn byte(file: &[u8], at: u64) -> u64 {
+fn byte(file: &[u8], at: u64) -> u64
+    ensures { λ r. ⌜ r ≡ row (ltb at 65536) (byteAt (now (file .entry)) at) 0 ⌝ }
+{
     if at < 65536 {
         return network::byte_of(file, at as u32);
     }
@@ -33,8 +40,10 @@ fn length(file: &[u8]) {
     print::told(b" and ", n, b" segments");
 }
 
-// Entry j of curve k, of which there are 201.
-fn entry(file: &[u8], k: u32, j: u64) -> u64 {
+// Entry j of curve k, of which there are 201, and 0 past them.
+fn entry(file: &[u8], k: u32, j: u64) -> u64
+    ensures { λ r. ⌜ r ≡ row (ltb j 201) (entryOn (now (file .entry)) k j) 0 ⌝ }
+{
     if j < 201 {
         return network::entry_of(file, k, j as u32);
     }

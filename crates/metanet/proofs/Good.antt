@@ -3,7 +3,8 @@
 use Prim.Native.Nat.{_+_, _*_, _≤_}
 use mathlib.Core.Path.{_≡_}
 use lib.ListN.{length}
-use Rattle.format.specs.Network.{Network, networkNumber, entryOf, segmentOf, Formed}
+use Rattle.format.specs.Network.{Network, entryOf, segmentOf}
+use Rattle.format.proofs.Accepted.{networkNumber, Formed}
 use Rattle.metanet.specs.Case.{Case}
 use Rattle.metanet.specs.Step.{totalOf}
 use Rattle.metanet.specs.Sound.{caseNumber}

@@ -11,7 +11,7 @@ fn arrival_number(net: &[u64], arrivals: &[u32], i: usize) -> u64
     requires { ⌜ (i < 40) × (i < length (now arrivals)) ⌝ }
     ensures { λ r. ⌜ r ≡ arrivalNumberIn (now (net .entry)) (now (arrivals .entry)) i ⌝ }
 {
-    let s = network::kept_segment(net, i as u32);
+    let s = network_words::kept_segment(net, i as u32);
     let d = arrivals[i];
     if (1000000 < d) | ((s.origin == 0) & (0 < d)) {
         return 15;

@@ -151,7 +151,7 @@ fn after_of(net: &[u64], rest: &[u64], i: usize, n: usize, s: Segment, count: u6
 {
     let k = i + 1;
     if k < n {
-        let next = network::kept_segment(net, k as u32);
+        let next = network_words::kept_segment(net, k as u32);
         return density_of(area_of(next), rest[16]);
     }
     if count < s.critical * g {
@@ -250,11 +250,11 @@ pub(crate) fn new_state_in(
     requires { ⌜ NewStateOk (now words) a v d i n passed ⌝ }
     ensures { λ r. ⌜ r ≡ newStateIn (netOf (now (words .entry))) (drop a (now (words .entry))) v d i n t passed before ⌝ }
 {
-    let net = &words[..network::NETWORK_WORDS];
+    let net = &words[..network_words::NETWORK_WORDS];
     let rest = &words[a..];
-    let h = network::kept_head(net);
-    let s = network::kept_segment(net, i as u32);
-    let f = network::kept_entry(net, s.curve as u32, 0);
+    let h = network_words::kept_head(net);
+    let s = network_words::kept_segment(net, i as u32);
+    let f = network_words::kept_entry(net, s.curve as u32, 0);
     let r = state_of(rest, v);
     let g = area_of(s);
     let after = after_of(net, rest, i, n, s, r.count, g);
@@ -275,6 +275,6 @@ pub(crate) fn pass_on(words: &[u64], i: usize, out: u64) -> u64
     requires { ⌜ segmentIn (netOf (now words)) i .exit ≤ 1000 ⌝ }
     ensures { λ r. ⌜ r ≡ out - exitPart out (segmentIn (netOf (now (words .entry))) i .exit) ⌝ }
 {
-    let s = network::kept_segment(&words[..network::NETWORK_WORDS], i as u32);
+    let s = network_words::kept_segment(&words[..network_words::NETWORK_WORDS], i as u32);
     out - flow::exit_part(out, s.exit)
 }

@@ -103,9 +103,9 @@ fn state_number(words: &[u64], speeds: &[f64], at: usize, from: usize, n: usize,
     requires { ⌜ i < n ⌝ }
     ensures { λ r. ⌜ r ≡ stateNumberIn (now (words .entry)) (now (speeds .entry)) at from n i ⌝ }
 {
-    let net = &words[..network::NETWORK_WORDS];
-    let s = network::kept_segment(net, i as u32);
-    let f = network::kept_entry(net, s.curve as u32, 0);
+    let net = &words[..network_words::NETWORK_WORDS];
+    let s = network_words::kept_segment(net, i as u32);
+    let f = network_words::kept_entry(net, s.curve as u32, 0);
     let a = at + 16 * i;
     let b = from + i;
     let r = segment::state_of(&words[a..], speeds[b]);

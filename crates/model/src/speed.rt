@@ -85,10 +85,10 @@ pub(crate) fn curve_speed(net: &[u64], k: u64, n: u64, g: u64) -> f64
 {
     let j = n / g;
     if 200 <= j {
-        return whole(network::kept_entry(net, k as u32, 200));
+        return whole(network_words::kept_entry(net, k as u32, 200));
     }
-    let high = network::kept_entry(net, k as u32, j as u32);
-    let low = network::kept_entry(net, k as u32, (j + 1) as u32);
+    let high = network_words::kept_entry(net, k as u32, j as u32);
+    let low = network_words::kept_entry(net, k as u32, (j + 1) as u32);
     whole(high) - whole((high - low) * (n % g)) / whole(g)
 }
 

@@ -1,5 +1,6 @@
 // A curve's 201 entries in the file: row 6.
 use crate::number;
+use crate::rows;
 ghost use mathlib.Core.Path.{_≡_};
 ghost use Prim.Native.Nat.{_+_, _*_, _<_, _≤_};
 ghost use lib.ListN.{length};
@@ -20,7 +21,7 @@ fn eight_row(file: &[u8], at: usize, j: usize, a: u64, i: u64) -> u64
     requires { ⌜ (at + 4 * j + 36 ≤ length (now file)) × (a ≡ entryAt (now file) at j) × (i ≡ entryAt (now file) at (j + 8)) ⌝ }
     ensures { λ r. ⌜ r ≡ firstOf (λ i. rising (entryAt (now (file .entry)) at) (j + i)) 8 ⌝ }
 {
-    number::eight_rising(
+    rows::eight_rising(
         a,
         entry(file, at, j + 1),
         entry(file, at, j + 2),

@@ -1,24 +1,10 @@
 // The head, 16 bytes: rows 1 to 5.
 use crate::number;
-use format::Head;
+use crate::rows;
 ghost use mathlib.Core.Path.{_≡_};
 ghost use Prim.Native.Nat.{_≤_};
 ghost use lib.ListN.{length};
-ghost use Rattle.format.specs.Network.{headBad};
-ghost use Rattle.format.specs.File.{hasMark, headOf, headPadding, headNumber};
-
-// Row 4, of the fields.
-pub(crate) fn head_bad(h: Head) -> bool
-    ensures { λ r. ⌜ r ≡ headBad h ⌝ }
-{
-    arrays::outside(1, h.step, 60)
-        | arrays::outside(1, h.size, 40)
-        | arrays::outside(1, h.curves, 8)
-        | arrays::outside(1, h.tau, 120)
-        | (200 < h.nu)
-        | arrays::outside(1, h.kappa, 200)
-        | (1000 < h.delta)
-}
+ghost use Rattle.format.specs.File.{hasMark, headPadding, headNumber};
 
 fn has_mark(file: &[u8]) -> bool
     requires { ⌜ 16 ≤ length (now file) ⌝ }
@@ -26,20 +12,6 @@ fn has_mark(file: &[u8]) -> bool
 {
     let mark = b"FWN";
     (file[0] == mark[0]) & (file[1] == mark[1]) & (file[2] == mark[2])
-}
-
-pub(crate) fn read_head(file: &[u8]) -> Head
-    ensures { λ r. ⌜ r ≡ headOf (now (file .entry)) ⌝ }
-{
-    Head {
-        step: number::byte_at(file, 5),
-        size: number::byte_at(file, 6),
-        curves: number::byte_at(file, 7),
-        tau: number::byte_at(file, 8),
-        nu: number::byte_at(file, 9),
-        kappa: number::byte_at(file, 10),
-        delta: number::u16_at(file, 12),
-    }
 }
 
 // Row 4, of the bytes that are zero.
@@ -61,8 +33,8 @@ pub(crate) fn head_number(file: &[u8]) -> u64
     if number::u16_at(file, 3) != 1 {
         return 3;
     }
-    let h = read_head(file);
-    if head_bad(h) | head_padding(file) {
+    let h = crate::head_of(file);
+    if rows::head_bad(h) | head_padding(file) {
         return 4;
     }
     if file.len() as u64 != 16 + 804 * h.curves + 16 * h.size {

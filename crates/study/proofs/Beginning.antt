@@ -12,11 +12,9 @@ use Rattle.laws.proofs.Puts.{put-after, puts-after}
 use Rattle.format.specs.declared.Segment.{Segment}
 use Rattle.format.specs.Network.{networkFrom, segmentOf}
 use Rattle.format.specs.File.{headOf, networkOf, fileNumber}
-use Rattle.format.specs.Words.{keptWords, keepWords}
+use Rattle.format.specs.Words.{keptWords}
 use Rattle.format.proofs.File.{network-within}
 use Rattle.format.proofs.Kept.{length-kept}
-use Rattle.format.proofs.KeptFile.{keep-accepted}
-use Rattle.format.proofs.KeepCall.{keep-is}
 use Rattle.metanet.specs.declared.SegmentState.{SegmentState}
 use Rattle.metanet.specs.Case.{Case, noState, stateOf}
 use Rattle.metanet.specs.Words.{stateWords, caseWords, caseSpeeds}
@@ -53,15 +51,14 @@ module _ (b mvs queues words : List ℕ) (z : fileNumber b ≡ 0) where
       length-append (keptWords (networkOf b)) startMarks
       ∙ ap (λ (m : ℕ). m + 16) (length-kept (networkOf b) (network-within b z .head .curves-high) (network-within b z .head .size-high))
 
-  pub begun : {n : ℕ} {kept marked rowed last : List ℕ} → n ≡ headOf b .size → 2560 ≤ length words
-      → kept ≡ keepWords b words → marked ≡ putPart 2560 16 startMarks kept
+  pub begun : {n : ℕ} {kept marked rowed last : List ℕ} → n ≡ headOf b .size
+      → kept ≡ keptWords (networkOf b) ++ drop 2560 words → marked ≡ putPart 2560 16 startMarks kept
       → rowed ≡ puts 16 (openWordsOn b mvs queues) 2576 n marked → last ≡ putPart (2576 + 16 * n) 8 (replicate 8 0) rowed
       → last ≡ beginWords b mvs queues n words
   unfolding beginWords networkFrom
-  begun {n} {kept} {marked} {rowed} size long k m r l =
-      let k' : kept ≡ keptWords (networkOf b) ++ drop 2560 words = k ∙ keep-is b words (keep-accepted b words z long) in
+  begun {n} {kept} {marked} {rowed} size k m r l =
       let size-kept = length-kept (networkOf b) (network-within b z .head .curves-high) (network-within b z .head .size-high) in
-      let m' : marked ≡ front ++ drop 2576 words = m ∙ put-after words kept (keptWords (networkOf b)) startMarks 2560 16 size-kept k' in
+      let m' : marked ≡ front ++ drop 2576 words = m ∙ put-after words kept (keptWords (networkOf b)) startMarks 2560 16 size-kept k in
       let r' : rowed ≡ (front ++ parts (openWordsOn b mvs queues) n) ++ drop (2576 + 16 * n) words = r ∙ puts-after words marked front 2576 16 (openWordsOn b mvs queues) n length-front m' in
       let long-states : length (front ++ parts (openWordsOn b mvs queues) n) ≡ 2576 + 16 * n =
       length-append front (parts (openWordsOn b mvs queues) n) ∙ (λ j. length-front j + length-parts 16 (openWordsOn b mvs queues) n (λ i h. length-open _ _ _) j) in

@@ -1,23 +1,25 @@
 -- What Write answers, and the bytes that it leaves.
-use Prim.Native.Nat.{ℕ}
+use Prim.Native.Nat.{ℕ, _≤_, _<_}
 use mathlib.Core.Path.{_≡_, sym, ap, _∙_}
 use mathlib.Core.Bool.{true, false, not}
 use mathlib.Core.List.{List, [], _∷_, _++_}
 use native.Mathlib.Omega.{arith}
-use lib.ListN.{drop}
+use lib.Dec.{ltb}
+use lib.ListN.{length, drop}
 use lib.Ieee.{Float}
-use Rattle.laws.specs.First.{ifAccepted}
-use Rattle.laws.proofs.First.{row-applies, row-skipped, first-zero, when-accepted, when-refused}
+use borrow.Author.Tests.{lt-ltb, le-ltb}
+use Rattle.laws.specs.First.{row}
+use Rattle.laws.proofs.First.{row-applies, row-skipped, when-accepted, when-refused}
 use Rattle.format.specs.declared.Head.{Head}
 use Rattle.format.specs.Network.{networkFrom}
 use Rattle.format.specs.File.{fileSize}
 use Rattle.format.specs.Written.{fileOf}
-use Rattle.format.specs.Words.{headIn, networkIn, writeNumber, writeBytes}
+use Rattle.format.specs.Words.{headIn, networkIn}
 use Rattle.metanet.specs.Words.{netOf}
 use Rattle.book.specs.Sound.{sound}
+use Rattle.book.specs.Question.{Answer, figures}
+use Rattle.book.specs.Calls.{refused}
 use Rattle.book.specs.Write.{writeRefusal, writtenBytes, writeAnswer}
-use Rattle.book.proofs.Sounds.{kept}
-use Rattle.book.specs.Question.{Answer, refused, figures}
 
 -- an answer, and the buffer afterwards, are what Write gives
 pub record Writes (words : List ℕ) (speeds : List Float) (out : List ℕ) (answer : Answer) (out' : List ℕ) : Type 0 where
@@ -36,25 +38,21 @@ module _ (words : List ℕ) (speeds : List Float) (out : List ℕ) where
   unfolding writeRefusal
   write-unsound e = stays (sym (row-applies _ _ _ (ap not e))) (λ z. omega (arith, z))
 
-  -- of a sound study, as of its network's words
-  module _ (s : sound words speeds ≡ true) where
-    refusal-is : writeRefusal words speeds out ≡ writeNumber (netOf words) out
-    unfolding writeRefusal writeNumber networkFrom
-    refusal-is = row-skipped _ _ _ (ap not s) ∙ sym (first-zero _ _ (kept words speeds s))
+  -- of a sound study, whose head was read as h
+  module _ (s : sound words speeds ≡ true) {h : Head} (read : h ≡ headIn (netOf words)) where
+    refusal-is : writeRefusal words speeds out ≡ row (ltb (length out) (fileSize h)) 24 0
+    unfolding writeRefusal networkFrom
+    refusal-is = row-skipped _ _ _ (ap not s) ∙ ap (λ (x : Head). row (ltb (length out) (fileSize x)) 24 0) (sym read)
 
-    bytes-are : writtenBytes words speeds out ≡ writeBytes (netOf words) out
-    unfolding writtenBytes writeBytes networkFrom
-    bytes-are = ap (λ (m : ℕ). ifAccepted m (fileOf (networkIn (netOf words)) ++ drop (fileSize (headIn (netOf words))) out) out) refusal-is
+    pub write-short : length out < fileSize h → Writes words speeds out (refused 24) out
+    write-short l = stays (sym (refusal-is ∙ row-applies _ _ _ (lt-ltb _ _ l))) (λ z. omega (arith, z))
 
-    module _ {r : ℕ} (e : r ≡ writeNumber (netOf words) out) {out' : List ℕ} (is : out' ≡ writeBytes (netOf words) out) where
-      pub write-refuses : (r ≡ 0 → ⊥) → Writes words speeds out (refused r) out'
-      write-refuses some =
-          record { answers = stays (e ∙ sym refusal-is) some .answers; bytes-are = is ∙ sym bytes-are }
-
-      pub write-answers : {h : Head} → r ≡ 0 → h ≡ headIn (netOf words) → Writes words speeds out (figures (fileSize h ∷ [])) out'
-      unfolding writeAnswer networkFrom
-      write-answers z is-head =
-          record {
-            answers = ap (λ (h : Head). figures (fileSize h ∷ [])) is-head ∙ sym (when-accepted _ _ _ (refusal-is ∙ sym e ∙ z));
-            bytes-are = is ∙ sym bytes-are;
-          }
+    pub write-answers : {out' : List ℕ} → fileSize h ≤ length out → out' ≡ fileOf (networkIn (netOf words)) ++ drop (fileSize (headIn (netOf words))) out
+        → Writes words speeds out (figures (fileSize h ∷ [])) out'
+    unfolding writeAnswer writtenBytes networkFrom
+    write-answers fits is =
+        let z = refusal-is ∙ row-skipped _ _ _ (le-ltb _ _ fits) in
+        record {
+          answers = ap (λ (x : Head). figures (fileSize x ∷ [])) read ∙ sym (when-accepted _ _ _ z);
+          bytes-are = is ∙ sym (when-accepted _ _ _ z);
+        }

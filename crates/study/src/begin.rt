@@ -166,7 +166,7 @@ pub(crate) fn put_words(words: &mut [u64], file: &[u8], mvs: &[u32], queues: &[u
     requires { ⌜ (n ≤ length (now mvs)) × (n ≤ length (now queues)) × (2584 + 16 * n ≤ length (now words)) ⌝ }
     ensures { λ _. ⌜ now (words .exit) ≡ beginWords (now (file .entry)) (now (mvs .entry)) (now (queues .entry)) n (now (words .entry)) ⌝ }
 {
-    network::keep(file, words);
+    network_words::keep(file, words);
     put_marks(words);
     put_states(words, file, mvs, queues, n);
     put_zeros(words, crate::FIRST_CASE + 16 * n, 8);

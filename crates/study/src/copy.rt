@@ -1,7 +1,8 @@
 // A case's words and speeds, copied to the place of another.
 ghost use mathlib.Core.Path.{_≡_};
 ghost use Prim.Native.Nat.{_+_, _≤_};
-ghost use lib.ListN.{length};
+ghost use mathlib.Core.List.{_++_};
+ghost use lib.ListN.{length, drop};
 ghost use Rattle.laws.specs.Lists.{part, putPart};
 ghost use Rattle.book.specs.Arrangement.{wordsFor, speedsFor};
 ghost use Rattle.book.specs.Perform.{copiedWords, copiedSpeeds};
@@ -11,6 +12,7 @@ ghost use Rattle.book.specs.Perform.{copiedWords, copiedSpeeds};
 fn copy_word_part(words: &mut [u64], buffer: &mut [u64], from: usize, to: usize, len: usize)
     requires { ⌜ (from + len ≤ length (now words)) × (to + len ≤ length (now words)) × (len ≤ length (now buffer)) ⌝ }
     ensures { λ _. ⌜ now (words .exit) ≡ putPart to len (part from len (now (words .entry))) (now (words .entry)) ⌝ }
+    ensures { λ _. ⌜ now (buffer .exit) ≡ part from len (now (words .entry)) ++ drop len (now (buffer .entry)) ⌝ }
 {
     arrays::put_words(&words[from..from + len], &mut buffer[..len]);
     arrays::put_words(&buffer[..len], &mut words[to..to + len]);
@@ -19,6 +21,7 @@ fn copy_word_part(words: &mut [u64], buffer: &mut [u64], from: usize, to: usize,
 fn copy_speed_part(speeds: &mut [f64], buffer: &mut [f64], from: usize, to: usize, len: usize)
     requires { ⌜ (from + len ≤ length (now speeds)) × (to + len ≤ length (now speeds)) × (len ≤ length (now buffer)) ⌝ }
     ensures { λ _. ⌜ now (speeds .exit) ≡ putPart to len (part from len (now (speeds .entry))) (now (speeds .entry)) ⌝ }
+    ensures { λ _. ⌜ now (buffer .exit) ≡ part from len (now (speeds .entry)) ++ drop len (now (buffer .entry)) ⌝ }
 {
     arrays::put_speeds(&speeds[from..from + len], &mut buffer[..len]);
     arrays::put_speeds(&buffer[..len], &mut speeds[to..to + len]);

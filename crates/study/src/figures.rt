@@ -88,6 +88,6 @@ pub(crate) fn segment_figures(
 {
     let a = crate::FIRST_CASE + k * (16 * n + 8) + 16 * i;
     let b = k * n + i;
-    let s = network::kept_segment(&words[..network::NETWORK_WORDS], i as u32);
+    let s = network_words::kept_segment(&words[..network_words::NETWORK_WORDS], i as u32);
     state_figures(s, &words[a..], speeds[b])
 }

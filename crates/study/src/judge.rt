@@ -69,14 +69,14 @@ fn cases_number(words: &[u64], speeds: &[f64], n: usize) -> u64
 pub(crate) fn sound_number(words: &[u64], speeds: &[f64]) -> u64
     ensures { λ r. ⌜ r ≡ soundNumber (now (words .entry)) (now (speeds .entry)) ⌝ }
 {
-    if words.len() < network::NETWORK_WORDS {
+    if words.len() < network_words::NETWORK_WORDS {
         return 12;
     }
-    let net = &words[..network::NETWORK_WORDS];
-    if 0 < network::kept_number(net) {
+    let net = &words[..network_words::NETWORK_WORDS];
+    if 0 < network_words::kept_number(net) {
         return 12;
     }
-    let h = network::kept_head(net);
+    let h = network_words::kept_head(net);
     let n = h.size as usize;
     if (words.len() < crate::FIRST_CASE + 7 * (16 * n + 8)) | (speeds.len() < 7 * n) {
         return 12;

@@ -23,7 +23,7 @@ ghost use Rattle.book.specs.Write.{writtenBytes, writeAnswer, writtenSays};
 
 // The word of the run count, k words before the mark of slot k; that of the arrangement number, and this number; and the first word of
 // the live case, before those of the slots.
-pub(crate) const RUN_WORD: usize = network::NETWORK_WORDS;
+pub(crate) const RUN_WORD: usize = network_words::NETWORK_WORDS;
 
 pub(crate) const ARRANGEMENT_WORD: usize = RUN_WORD + 15;
 
@@ -187,11 +187,12 @@ pub fn write(words: &[u64], speeds: &[f64], out: &mut [u8]) -> Written
     if !sound(words, speeds) {
         return Written::Refused(12);
     }
-    let net = &words[..network::NETWORK_WORDS];
-    let r = network::write(net, out);
-    if r != 0 {
-        return Written::Refused(r);
+    let net = &words[..network_words::NETWORK_WORDS];
+    let h = network_words::kept_head(net);
+    let size = 16 + 804 * h.curves + 16 * h.size;
+    if (out.len() as u64) < size {
+        return Written::Refused(24);
     }
-    let h = network::kept_head(net);
-    Written::Bytes(16 + 804 * h.curves + 16 * h.size)
+    network_writer::write(net, out);
+    Written::Bytes(size)
 }

@@ -87,7 +87,7 @@ pub(crate) fn step_number(words: &[u64], speeds: &[f64], arrivals: &[u32]) -> u6
     }
     let n = words[1] as usize;
     let r = model::step_number(
-        &words[..network::NETWORK_WORDS],
+        &words[..network_words::NETWORK_WORDS],
         arrivals,
         n,
         words[crate::FIRST_CASE + 16 * n],

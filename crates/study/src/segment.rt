@@ -11,7 +11,7 @@ ghost use Rattle.book.specs.Arrangement.{networkAt, sizeAt};
 pub(crate) fn segment_missing(words: &[u64], i: u64) -> bool
     ensures { λ r. ⌜ r ≡ outside 1 i (sizeAt (now (words .entry))) ⌝ }
 {
-    let h = network::kept_head(words);
+    let h = network_words::kept_head(words);
     arrays::outside(1, i, h.size)
 }
 
@@ -20,5 +20,5 @@ pub(crate) fn segment_at(words: &[u64], i: u64) -> Segment
     requires { ⌜ (2560 ≤ length (now words)) × (1 ≤ i) × (i ≤ sizeAt (now words)) × (i ≤ 40) ⌝ }
     ensures { λ r. ⌜ r ≡ segmentOf (networkAt (now (words .entry))) (i - 1) ⌝ }
 {
-    network::kept_segment(&words[..network::NETWORK_WORDS], (i - 1) as u32)
+    network_words::kept_segment(&words[..network_words::NETWORK_WORDS], (i - 1) as u32)
 }

@@ -1,6 +1,13 @@
 // Program "tallies": reads a network of one segment on standard input, starts a study on it with 20,000 mv, 90,000 m/h and a queue of
 // 5,000, steps with arrivals 4,000, then 0, and prints steps, segments, queues, arrivals, exits and time at each. Where a call is
 // refused it prints the number alone.
+ghost use mathlib.Core.Path.{_≡_};
+ghost use mathlib.Core.List.{[], _∷_};
+ghost use Rattle.book.specs.Calls.{step};
+ghost use Rattle.book.specs.Perform.{perform, lent};
+ghost use Rattle.book.specs.Claim.{after};
+ghost use Rattle.tallies.specs.Run.{steps, ran};
+
 fn space(x: u64) {
     io::print_decimal(1, x);
     io::write_all(1, b" ");
@@ -29,7 +36,9 @@ fn tally(words: &[u64], speeds: &[f64]) {
 }
 
 // One step with d mv arriving at the segment.
-fn step(words: &mut [u64], speeds: &mut [f64], d: u32) {
+fn step(words: &mut [u64], speeds: &mut [f64], d: u32)
+    ensures { λ _. ⌜ lent (now (words .exit)) (now (speeds .exit)) ≡ perform (step (d ∷ [])) (lent (now (words .entry)) (now (speeds .entry))) .state ⌝ }
+{
     let arrivals = [d];
     match study::step(words, speeds, &arrivals) {
         book::Verdict::Refused(number) => last(number),
@@ -37,14 +46,18 @@ fn step(words: &mut [u64], speeds: &mut [f64], d: u32) {
     }
 }
 
-fn list(words: &mut [u64], speeds: &mut [f64]) {
+fn list(words: &mut [u64], speeds: &mut [f64])
+    ensures { λ _. ⌜ lent (now (words .exit)) (now (speeds .exit)) ≡ after steps (lent (now (words .entry)) (now (speeds .entry))) ⌝ }
+{
     io::write_all(1, b"step segments queues arrivals exits time\n");
     tally(words, speeds);
     step(words, speeds, 4000);
     step(words, speeds, 0);
 }
 
-fn run(file: &[u8], words: &mut [u64], speeds: &mut [f64]) {
+fn run(file: &[u8], words: &mut [u64], speeds: &mut [f64])
+    ensures { λ _. ⌜ lent (now (words .exit)) (now (speeds .exit)) ≡ ran (now (file .entry)) (lent (now (words .entry)) (now (speeds .entry))) ⌝ }
+{
     let mvs = [20000];
     let starts = [90000];
     let queues = [5000];

@@ -13,16 +13,16 @@ use Rattle.network.proofs.check.Tie as tie
 head-zero : (c : tie.Else1) → headNumber (now (c .before .before .before .args .file)) ≡ 0
 head-zero c = sym (c .before .head-number .ensures) ∙ c .if1 .left
 
-sized : (c : tie.After-read-head) → Sized (now (c .before .before .before .before .args .file)) (c .read-head .result)
-sized c = rw (c .read-head .ensures) (head-accepted _ (head-zero (c .before)) .sized)
+sized : (c : tie.After-head-of) → Sized (now (c .before .before .before .before .args .file)) (c .head-of .result)
+sized c = rw (c .head-of .ensures) (head-accepted _ (head-zero (c .before)) .sized)
 
 curves : (c : tie.After-curve-rows) → c .curve-rows .result ≡ curvesNumber (now (c .before .before .before .before .before .args .file))
 unfolding curvesNumber
-curves c = c .curve-rows .ensures ∙ rw (c .before .read-head .ensures)
+curves c = c .curve-rows .ensures ∙ rw (c .before .head-of .ensures)
 
 records : (c : tie.After-record-rows) → c .record-rows .result ≡ recordsNumber (now (c .before .before .before .before .before .before .before .args .file))
 unfolding recordsNumber
-records c = c .record-rows .ensures ∙ rw (c .before .before .before .read-head .ensures)
+records c = c .record-rows .ensures ∙ rw (c .before .before .before .head-of .ensures)
 
 returns : tie.Need-returns
 returns c =

@@ -16,11 +16,11 @@ returns c =
 
 returns-2 : tie.Need-returns-2
 returns-2 c =
-    sym (curve-call-none _ _ (accepted (c .before .before .before)) (rw (c .before .before .read-head .ensures) at (c .if2 .taken)))
+    sym (curve-call-none _ _ (accepted (c .before .before .before)) (rw (c .before .before .head-of .ensures) at (c .if2 .taken)))
 
 returns-3 : tie.Need-returns-3
 returns-3 c =
-    sym (curve-call-some _ _ (accepted (c .before .before .before)) (rw (c .before .before .read-head .ensures) at (c .if2 .left)))
+    sym (curve-call-some _ _ (accepted (c .before .before .before)) (rw (c .before .before .head-of .ensures) at (c .if2 .left)))
 
 pub curve-number-spec : {M : Type 1} → statement M
 curve-number-spec = tie.close (tie.spec (λ c κs. search needs) returns (λ c κs. search needs) returns-2 returns-3)

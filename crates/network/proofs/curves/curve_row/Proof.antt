@@ -6,7 +6,7 @@ use native.Mathlib.Omega.{arith}
 use mathlib.Core.Path.{_≡_, sym, ap, _∙_}
 use Rattle.laws.specs.First.{outside}
 use Rattle.format.specs.File.{entryAt}
-use Rattle.format.proofs.Rows.{Falling, curve-refused, curve-begun, curve-rises, curve-falls, curve-passes}
+use Rattle.network.proofs.EightEntries.{Falling, curve-refused, curve-begun, curve-rises, curve-falls, curve-passes}
 use Rattle.network.proofs.curves.curve_row.Statement.{statement}
 use Rattle.network.proofs.curves.curve_row.Tie as tie
 

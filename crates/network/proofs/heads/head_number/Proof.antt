@@ -32,9 +32,9 @@ tested :
     (c : tie.After-head-padding) →
     let b = now (c .before .before .before .before .before .before .before .before .before .args .file) in
     (c .before .head-bad .result || c .head-padding .result) ≡ (headBad (headOf b) || headPadding b)
-tested c = simp (c .before .head-bad .ensures, c .before .before .read-head .ensures, c .head-padding .ensures)
+tested c = simp (c .before .head-bad .ensures, c .before .before .head-of .ensures, c .head-padding .ensures)
 
-within : (c : tie.Else4) → HeadWithin (c .before .before .before .read-head .result)
+within : (c : tie.Else4) → HeadWithin (c .before .before .before .head-of .result)
 within c = head-within _ (sym (c .before .before .head-bad .ensures) ∙ or-left _ (c .before .head-padding .result) (c .if4 .left))
 
 returns : tie.Need-returns
@@ -70,12 +70,12 @@ last-row c =
 returns-5 : tie.Need-returns-5
 returns-5 c =
     let c4 = c .before .before .before in
-    sym (last-row c4 ∙ row-applies _ _ _ (ap not (ne-eqb _ _ (λ e. c .if5 .taken (simp (c4 .before .before .before .read-head .ensures) e)))))
+    sym (last-row c4 ∙ row-applies _ _ _ (ap not (ne-eqb _ _ (λ e. c .if5 .taken (simp (c4 .before .before .before .head-of .ensures) e)))))
 
 returns-6 : tie.Need-returns-6
 returns-6 c =
     let c4 = c .before .before .before in
-    sym (last-row c4 ∙ row-skipped _ _ _ (ap not (eq-eqb _ _ (simp (c4 .before .before .before .read-head .ensures) at (c .if5 .left)))))
+    sym (last-row c4 ∙ row-skipped _ _ _ (ap not (eq-eqb _ _ (simp (c4 .before .before .before .head-of .ensures) at (c .if5 .left)))))
 
 pub head-number-spec : {M : Type 1} → statement M
 head-number-spec =

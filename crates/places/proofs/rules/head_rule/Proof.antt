@@ -1,7 +1,7 @@
 use denote.Ref.{now}
 use mathlib.Core.Path.{ap, _∙_}
 use Rattle.laws.specs.Search.{firstHeld}
-use Rattle.format.proofs.RuleLists.{head-read}
+use Rattle.places.proofs.RuleLists.{head-read}
 use borrow.Author.Needs.{needs}
 use Rattle.places.proofs.rules.head_rule.Statement.{statement}
 use Rattle.places.proofs.rules.head_rule.Tie as tie

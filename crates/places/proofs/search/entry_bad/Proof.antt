@@ -1,6 +1,6 @@
 use mathlib.Core.Path.{sym, _∙_}
 use borrow.Author.Needs.{needs}
-use Rattle.format.proofs.RuleLists.{entry-first, entry-later}
+use Rattle.places.proofs.RuleLists.{entry-first, entry-later}
 use Rattle.places.proofs.search.entry_bad.Statement.{statement}
 use Rattle.places.proofs.search.entry_bad.Tie as tie
 

@@ -18,8 +18,8 @@ returns c =
     let marks = states .before .before .before .before in
     let net = marks .before .before .before .before in
     let s = net .before .before .before .before .before .before in
-    begun (now (s .args .file)) (now (s .args .mvs)) (now (s .args .queues)) (now (s .args .words)) (s .pre .0 .0) (s .pre .0 .1) (omega (arith, s .pre .1 .2))
-    (net .keep .ensures .1) (marks .put-marks .ensures) (states .put-states .ensures) (c .before .before .put-zeros .ensures)
+    begun (now (s .args .file)) (now (s .args .mvs)) (now (s .args .queues)) (now (s .args .words)) (s .pre .0 .0) (s .pre .0 .1)
+    (net .keep .ensures) (marks .put-marks .ensures) (states .put-states .ensures) (c .before .before .put-zeros .ensures)
 
 pub put-words-spec : {M : Type 1} → statement M
 put-words-spec =

@@ -1,7 +1,7 @@
 -- The part goes into the front of the buffer list, and from there over the other part.
 use mathlib.Core.Path.{sym}
 use borrow.Author.Needs.{needs}
-use Rattle.arrays.proofs.Over.{Parts, front-length, held-length, part-over}
+use Rattle.arrays.proofs.Over.{Parts, front-length, held-length, held-after, part-over}
 use Rattle.study.proofs.copy.copy_speed_part.Statement.{statement}
 use Rattle.study.proofs.copy.copy_speed_part.Tie as tie
 
@@ -21,7 +21,8 @@ returns : tie.Need-returns
 returns c =
     let e = c .before .before in
     let d = e .before .before .before .before .before in
-    part-over (parts (start d)) (d .put-speeds .ensures) (e .put-speeds2 .ensures)
+    let p = parts (start d) in
+    (part-over p (d .put-speeds .ensures) (e .put-speeds2 .ensures), held-after p (d .put-speeds .ensures))
 
 pub copy-speed-part-spec : {M : Type 1} → statement M
 copy-speed-part-spec =

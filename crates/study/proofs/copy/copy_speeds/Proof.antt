@@ -16,7 +16,7 @@ copy-speed-part-requires c κs =
 
 returns : tie.Need-returns
 unfolding copiedSpeeds
-returns c = c .before .before .before .copy-speed-part .ensures
+returns c = c .before .before .before .copy-speed-part .ensures .0
 
 pub copy-speeds-spec : {M : Type 1} → statement M
 copy-speeds-spec =

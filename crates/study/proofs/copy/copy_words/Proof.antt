@@ -22,7 +22,7 @@ copy-word-part-requires c κs =
 
 returns : tie.Need-returns
 unfolding copiedWords
-returns c = c .before .before .before .copy-word-part .ensures
+returns c = c .before .before .before .copy-word-part .ensures .0
 
 pub copy-words-spec : {M : Type 1} → statement M
 copy-words-spec =

@@ -1,0 +1,138 @@
+// A network kept in words, written back as the bytes of its file.
+use format::Head;
+use format::Segment;
+ghost use mathlib.Core.Path.{_≡_};
+ghost use Prim.Native.Nat.{_+_, _*_, _%_, _≤_};
+ghost use mathlib.Core.List.{_++_};
+ghost use lib.ListN.{length, getD, drop};
+ghost use Rattle.laws.specs.Lists.{puts};
+ghost use Rattle.laws.specs.BigEndian.{u32Bytes};
+ghost use Rattle.format.specs.Written.{headBytes, segmentBytes, fileOf};
+ghost use Rattle.format.specs.Words.{headIn, segmentIn, networkIn, keptNumber};
+ghost use Rattle.format.specs.File.{fileSize};
+
+// The lowest byte of x.
+fn low(x: u64) -> u8
+    ensures { λ r. ⌜ r ≡ x % 256 ⌝ }
+{
+    (x % 256) as u8
+}
+
+fn head_bytes(h: Head) -> [u8; 16]
+    ensures { λ r. ⌜ r ≡ headBytes h ⌝ }
+{
+    let mark = b"FWN";
+    [
+        mark[0],
+        mark[1],
+        mark[2],
+        0,
+        1,
+        low(h.step),
+        low(h.size),
+        low(h.curves),
+        low(h.tau),
+        low(h.nu),
+        low(h.kappa),
+        0,
+        low(h.delta / 256),
+        low(h.delta),
+        0,
+        0,
+    ]
+}
+
+fn segment_bytes(s: Segment) -> [u8; 16]
+    ensures { λ r. ⌜ r ≡ segmentBytes s ⌝ }
+{
+    [
+        low(s.metres / 256),
+        low(s.metres),
+        low(s.lanes),
+        low(s.curve),
+        low(s.critical),
+        low(s.jam),
+        low(s.origin),
+        0,
+        low(s.exit / 256),
+        low(s.exit),
+        low(s.most / 16777216),
+        low(s.most / 65536),
+        low(s.most / 256),
+        low(s.most),
+        0,
+        0,
+    ]
+}
+
+fn entry_bytes(e: u64) -> [u8; 4]
+    ensures { λ r. ⌜ r ≡ u32Bytes e ⌝ }
+{
+    [low(e / 16777216), low(e / 65536), low(e / 256), low(e)]
+}
+
+// Each of these writes over the first bytes of the part that it is lent.
+fn put_head(out: &mut [u8], h: Head)
+    requires { ⌜ 16 ≤ length (now out) ⌝ }
+    ensures { λ _. ⌜ now (out .exit) ≡ headBytes h ++ drop 16 (now (out .entry)) ⌝ }
+{
+    let head = head_bytes(h);
+    bytes::copy(&head, out);
+}
+
+fn put_segment(out: &mut [u8], s: Segment)
+    requires { ⌜ 16 ≤ length (now out) ⌝ }
+    ensures { λ _. ⌜ now (out .exit) ≡ segmentBytes s ++ drop 16 (now (out .entry)) ⌝ }
+{
+    let record = segment_bytes(s);
+    bytes::copy(&record, out);
+}
+
+fn put_entry(out: &mut [u8], e: u64)
+    requires { ⌜ 4 ≤ length (now out) ⌝ }
+    ensures { λ _. ⌜ now (out .exit) ≡ u32Bytes e ++ drop 4 (now (out .entry)) ⌝ }
+{
+    let entry = entry_bytes(e);
+    bytes::copy(&entry, out);
+}
+
+// Writes count entries, which stand in the words from 16 on, at byte 16 of the file.
+fn put_entries(kept: &[u64], count: usize, out: &mut [u8])
+    requires { ⌜ (16 + count ≤ length (now kept)) × (count ≤ 1608) × (16 + 4 * count ≤ length (now out)) ⌝ }
+    ensures { λ _. ⌜ now (out .exit) ≡ puts 4 (λ j. u32Bytes (getD (now (kept .entry)) (16 + j) 0)) 16 count (now (out .entry)) ⌝ }
+{
+    let mut j = 0;
+    while j < count {
+        let at = 16 + 4 * j;
+        put_entry(&mut out[at..at + 4], kept[16 + j]);
+        j += 1;
+    }
+}
+
+// Writes n records from byte at on.
+fn put_segments(kept: &[u64], n: usize, out: &mut [u8], at: usize)
+    requires { ⌜ (n ≤ 40) × (at + 16 * n ≤ length (now out)) × (at ≤ 1000000) ⌝ }
+    ensures { λ _. ⌜ now (out .exit) ≡ puts 16 (λ i. segmentBytes (segmentIn (now (kept .entry)) i)) at n (now (out .entry)) ⌝ }
+{
+    let mut i = 0;
+    while i < n {
+        let from = at + 16 * i;
+        let s = network_words::kept_segment(kept, i as u32);
+        put_segment(&mut out[from..from + 16], s);
+        i += 1;
+    }
+}
+
+// Writes the kept network, which kept_number accepts, as a file over the buffer's first bytes; later bytes stay.
+pub fn write(kept: &[u64], out: &mut [u8])
+    requires { ⌜ keptNumber (now kept) ≡ 0 ⌝ }
+    requires { ⌜ fileSize (headIn (now kept)) ≤ length (now out) ⌝ }
+    ensures { λ _. ⌜ now (out .exit) ≡ fileOf (networkIn (now (kept .entry))) ++ drop (fileSize (headIn (now (kept .entry)))) (now (out .entry)) ⌝ }
+{
+    let h = network_words::kept_head(kept);
+    let c = h.curves as usize;
+    let n = h.size as usize;
+    put_head(out, h);
+    put_entries(kept, 201 * c, out);
+    put_segments(kept, n, out, 16 + 804 * c);
+}

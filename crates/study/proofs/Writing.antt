@@ -17,8 +17,7 @@ use Rattle.format.specs.Written.{fileOf}
 use Rattle.format.specs.Words.{headIn, networkIn}
 use Rattle.metanet.specs.Words.{netOf}
 use Rattle.book.specs.Sound.{sound}
-use Rattle.book.specs.Question.{Answer, figures}
-use Rattle.book.specs.Calls.{refused}
+use Rattle.book.specs.Question.{refused, Answer, figures}
 use Rattle.book.specs.Write.{writeRefusal, writtenBytes, writeAnswer}
 
 -- an answer, and the buffer afterwards, are what Write gives

@@ -3,10 +3,10 @@ use Prim.Native.Nat.{ℕ}
 use mathlib.Core.Path.{_≡_, ap, _∙_}
 use mathlib.Core.List.{List, [], _∷_}
 use lib.Ieee.{Float}
-use Rattle.book.specs.Calls.{Call, step, refused, accepted}
-use Rattle.book.specs.Question.{Answer}
-use Rattle.book.specs.Perform.{Arrays, perform, lent, Performs}
-use Rattle.book.specs.Claim.{after}
+use Rattle.metanet.specs.Line.{stepped}
+use Rattle.book.specs.Calls.{Call, item}
+use Rattle.book.specs.Question.{Answer, refused, accepted}
+use Rattle.book.specs.Perform.{Arrays, perform, lent, Performs, after}
 use Rattle.tallies.specs.Run.{started, steps, thenSteps, ran}
 
 module _ {words words' : List ℕ} {speeds speeds' : List Float} where
@@ -16,12 +16,12 @@ module _ {words words' : List ℕ} {speeds speeds' : List Float} where
   pub run-refused : (file : List ℕ) {number : ℕ} → Performs (started file) words speeds (refused number) words' speeds' → lent words' speeds' ≡ ran file (lent words speeds)
   run-refused file p = performed p ∙ ap (λ (x : Answer). thenSteps x (perform (started file) (lent words speeds) .state)) (p .answers)
 
-  pub run-accepted : (file : List ℕ) {a : Arrays} → Performs (started file) words speeds accepted words' speeds' → a ≡ after steps (lent words' speeds') → a ≡ ran file (lent words speeds)
+  pub run-accepted : (file : List ℕ) {a : Arrays} → Performs (started file) words speeds accepted words' speeds' → a ≡ after perform steps (lent words' speeds') → a ≡ ran file (lent words speeds)
   run-accepted file p e =
       e
-      ∙ ap (after steps) (performed p)
+      ∙ ap (after perform steps) (performed p)
       ∙ ap (λ (x : Answer). thenSteps x (perform (started file) (lent words speeds) .state)) (p .answers)
 
-pub both-steps : (a : Arrays) {b c : Arrays} → b ≡ perform (step (4000 ∷ [])) a .state → c ≡ perform (step (0 ∷ [])) b .state → c ≡ after steps a
+pub both-steps : (a : Arrays) {b c : Arrays} → b ≡ perform (item (stepped (4000 ∷ []))) a .state → c ≡ perform (item (stepped (0 ∷ []))) b .state → c ≡ after perform steps a
 unfolding after
-both-steps a e f = f ∙ ap (λ (b : Arrays). perform (step (0 ∷ [])) b .state) e
+both-steps a e f = f ∙ ap (λ (b : Arrays). perform (item (stepped (0 ∷ []))) b .state) e

@@ -1,11 +1,11 @@
-// Program "tallies": reads a network of one segment on standard input, starts a study on it with 20,000 mv, 90,000 m/h and a queue of
+// Program "tallies": reads a network of one segment on standard input, initial a study on it with 20,000 mv, 90,000 m/h and a queue of
 // 5,000, steps with arrivals 4,000, then 0, and prints steps, segments, queues, arrivals, exits and time at each. Where a call is
 // refused it prints the number alone.
 ghost use mathlib.Core.Path.{_≡_};
 ghost use mathlib.Core.List.{[], _∷_};
-ghost use Rattle.book.specs.Calls.{step};
-ghost use Rattle.book.specs.Perform.{perform, lent};
-ghost use Rattle.book.specs.Claim.{after};
+ghost use Rattle.metanet.specs.Line.{stepped};
+ghost use Rattle.book.specs.Calls.{item};
+ghost use Rattle.book.specs.Perform.{perform, lent, after};
 ghost use Rattle.tallies.specs.Run.{steps, ran};
 
 fn space(x: u64) {
@@ -37,7 +37,7 @@ fn tally(words: &[u64], speeds: &[f64]) {
 
 // One step with d mv arriving at the segment.
 fn step(words: &mut [u64], speeds: &mut [f64], d: u32)
-    ensures { λ _. ⌜ lent (now (words .exit)) (now (speeds .exit)) ≡ perform (step (d ∷ [])) (lent (now (words .entry)) (now (speeds .entry))) .state ⌝ }
+    ensures { λ _. ⌜ lent (now (words .exit)) (now (speeds .exit)) ≡ perform (item (stepped (d ∷ []))) (lent (now (words .entry)) (now (speeds .entry))) .state ⌝ }
 {
     let arrivals = [d];
     match study::step(words, speeds, &arrivals) {
@@ -47,7 +47,7 @@ fn step(words: &mut [u64], speeds: &mut [f64], d: u32)
 }
 
 fn list(words: &mut [u64], speeds: &mut [f64])
-    ensures { λ _. ⌜ lent (now (words .exit)) (now (speeds .exit)) ≡ after steps (lent (now (words .entry)) (now (speeds .entry))) ⌝ }
+    ensures { λ _. ⌜ lent (now (words .exit)) (now (speeds .exit)) ≡ after perform steps (lent (now (words .entry)) (now (speeds .entry))) ⌝ }
 {
     io::write_all(1, b"step segments queues arrivals exits time\n");
     tally(words, speeds);
@@ -59,9 +59,9 @@ fn run(file: &[u8], words: &mut [u64], speeds: &mut [f64])
     ensures { λ _. ⌜ lent (now (words .exit)) (now (speeds .exit)) ≡ ran (now (file .entry)) (lent (now (words .entry)) (now (speeds .entry))) ⌝ }
 {
     let mvs = [20000];
-    let starts = [90000];
+    let initial = [90000];
     let queues = [5000];
-    match study::start(words, speeds, file, &mvs, &starts, &queues) {
+    match study::start(words, speeds, file, &mvs, &initial, &queues) {
         book::Verdict::Refused(number) => last(number),
         book::Verdict::Accepted => list(words, speeds),
     }

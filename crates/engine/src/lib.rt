@@ -76,7 +76,7 @@ fn number_of(verdict: book::Verdict) -> u64
 pub extern "C" fn study_sound(words: &[u64], speeds: &[f64]) -> u64
     ensures { λ r. ⌜ r ≡ soundness (now (words .entry)) (now (speeds .entry)) ⌝ }
 {
-    if study::sound(words, speeds) {
+    if sound::sound(words, speeds) {
         return 0;
     }
     12
@@ -189,7 +189,7 @@ pub extern "C" fn study_drop(words: &mut [u64], speeds: &[f64], slot: u64) -> u6
 pub extern "C" fn study_report(words: &[u64], speeds: &[f64], k: u64, figures: &mut [u64]) -> u64
     ensures { λ r. ⌜ Reported (question (ofCase k totals)) (now (words .entry)) (now (speeds .entry)) (now (figures .entry)) r (now (figures .exit)) ⌝ }
 {
-    report::put_case(study::report(words, speeds, k), figures)
+    report::put_case(reports::report(words, speeds, k), figures)
 }
 
 // Seven figures of segment i of case k.
@@ -203,7 +203,7 @@ pub extern "C" fn study_report_segment(
 ) -> u64
     ensures { λ r. ⌜ Reported (question (ofCase k (segment i))) (now (words .entry)) (now (speeds .entry)) (now (figures .entry)) r (now (figures .exit)) ⌝ }
 {
-    report::put_segment(study::report_segment(words, speeds, k, i), figures)
+    report::put_segment(reports::report_segment(words, speeds, k, i), figures)
 }
 
 // The run count.
@@ -211,7 +211,7 @@ pub extern "C" fn study_report_segment(
 pub extern "C" fn study_run_count(words: &[u64], speeds: &[f64], figures: &mut [u64]) -> u64
     ensures { λ r. ⌜ Reported (question runCount) (now (words .entry)) (now (speeds .entry)) (now (figures .entry)) r (now (figures .exit)) ⌝ }
 {
-    report::put_runs(study::run_count(words, speeds), figures)
+    report::put_runs(reports::run_count(words, speeds), figures)
 }
 
 // Writes the study's network as a file from the buffer's first byte on; later bytes stay.
@@ -220,7 +220,7 @@ pub extern "C" fn study_write(words: &[u64], speeds: &[f64], out: &mut [u8]) -> 
     ensures { λ r. ⌜ r ≡ numberOf (writeAnswer (now (words .entry)) (now (speeds .entry)) (now (out .entry))) ⌝ }
     ensures { λ _. ⌜ now (out .exit) ≡ writtenBytes (now (words .entry)) (now (speeds .entry)) (now (out .entry)) ⌝ }
 {
-    match study::write(words, speeds, out) {
+    match reports::write(words, speeds, out) {
         book::Written::Refused(number) => number,
         book::Written::Bytes(_) => 0,
     }

@@ -15,9 +15,8 @@ use Rattle.laws.proofs.BigEndian.{part-u16, part-u32}
 use Rattle.laws.proofs.Tests.{or-left, or-right}
 use Rattle.laws.proofs.First.{row-passed, row-later, row-skipped, first-some, first-zero, first-zero-left, first-zero-right, firstOf-zero, firstOf-all}
 use Rattle.format.specs.Network.{networkFrom, entryOf, segmentOf, headBad, fieldThenSpeed, segmentNumber, rowsNumber}
-use Rattle.format.proofs.Accepted.{networkNumber}
+use Rattle.format.proofs.Accepted.{networkNumber, RowsWithin, Sized}
 use Rattle.format.specs.File.{hasMark, versionOf, headOf, headPadding, headNumber, curveIn, curvesNumber, recordStart, segmentAt, recordPadding, recordNumber, recordsNumber, fileNumber, entryOn, segmentOn, networkOf}
-use Rattle.format.proofs.Accepted.{RowsWithin, Sized}
 use Rattle.format.proofs.Rows.{head-within, rows-within}
 use Rattle.format.proofs.From.{from-number}
 

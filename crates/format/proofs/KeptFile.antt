@@ -7,10 +7,9 @@ use native.Mathlib.Nat.{le-of-eq}
 use borrow.Author.Tests.{le-ltb}
 use Rattle.laws.proofs.First.{row-skipped}
 use Rattle.format.specs.Network.{networkFrom}
-use Rattle.format.proofs.Accepted.{networkNumber}
+use Rattle.format.proofs.Accepted.{networkNumber, HeadWithin}
 use Rattle.format.specs.File.{headOf, entryOn, segmentOn, fileNumber, networkOf}
 use Rattle.format.specs.Words.{headIn, entryIn, segmentIn, networkIn, keptNumber, keptWords}
-use Rattle.format.proofs.Accepted.{HeadWithin}
 use Rattle.format.proofs.From.{from-formed, from-number}
 use Rattle.format.proofs.File.{file-accepted, network-accepted}
 use Rattle.format.proofs.Kept.{length-kept, kept-back}

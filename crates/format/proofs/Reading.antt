@@ -18,8 +18,7 @@ use Rattle.laws.proofs.BigEndian.{low-byte, two-back, four-back, length-u32, u3
 use Rattle.format.specs.declared.Head.{Head}
 use Rattle.format.specs.declared.Segment.{Segment}
 use Rattle.format.specs.Network.{Network, networkFrom, entryOf, segmentOf, headBad, segmentBad, fieldThenSpeed, segmentNumber}
-use Rattle.format.proofs.Accepted.{networkNumber}
-use Rattle.format.proofs.Accepted.{Formed, SegmentWithin, RowsWithin}
+use Rattle.format.proofs.Accepted.{networkNumber, Formed, SegmentWithin, RowsWithin}
 use Rattle.format.specs.File.{headOf, hasMark, versionOf, headPadding, fileSize, headNumber, curveStart, entryAt, recordStart, segmentAt, recordPadding, entryOn, segmentOn, curveIn, curvesNumber, recordNumber, recordsNumber, fileNumber, networkOf}
 use Rattle.format.specs.Written.{headBytes, segmentBytes, fileOf}
 use Rattle.format.proofs.Rows.{rows-within, entry-high, head-passed, curves-passed, segments-passed}

@@ -1,6 +1,6 @@
 // All segments of a case, in place and in driving order: what segment i + 1 needs of segment i's old state is carried along.
-use crate::segment;
 use metanet::SegmentState;
+use segment::state;
 ghost use mathlib.Core.Path.{_≡_};
 ghost use lib.ListN.{length};
 ghost use Rattle.metanet.specs.Words.{steppedWords};
@@ -43,9 +43,9 @@ pub(crate) fn step_states(
         let b = from + i;
         let v = speeds[b];
         let d = arrivals[i] as u64;
-        let r = segment::new_state_in(words, a, v, d, i, n, t, passed, before);
+        let r = state::new_state_in(words, a, v, d, i, n, t, passed, before);
         let flows = r.flows;
-        passed = segment::pass_on(words, i, flows.outflow);
+        passed = state::pass_on(words, i, flows.outflow);
         left = left + (flows.outflow - passed);
         store(&mut words[a..e], r);
         speeds[b] = r.speed;

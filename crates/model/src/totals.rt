@@ -1,10 +1,10 @@
 // A case's totals: steps, arrivals, exits and time.
 ghost use mathlib.Core.Path.{_≡_};
-ghost use Prim.Native.Nat.{ℕ, _+_, _*_, _<_, _≤_};
+ghost use Prim.Native.Nat.{_+_, _*_, _<_, _≤_};
 ghost use lib.ListN.{length, getD};
 ghost use Rattle.laws.specs.Sums.{sumOf};
 ghost use Rattle.metanet.specs.Words.{totalsWords};
-ghost use Rattle.metanet.proofs.Ready.{TotalsOk, vehiclesAt};
+ghost use Rattle.metanet.proofs.Ready.{TotalsOk};
 
 // The arrivals of a step, summed.
 pub(crate) fn sum_arrivals(arrivals: &[u32], n: usize) -> u64
@@ -15,23 +15,6 @@ pub(crate) fn sum_arrivals(arrivals: &[u32], n: usize) -> u64
     let mut i: usize = 0;
     while i < n {
         sum = sum + (arrivals[i] as u64);
-        i += 1;
-    }
-    sum
-}
-
-// The mv in segments and queues of a case whose counts and queues are at most 10^12 each.
-pub(crate) fn vehicles_in(words: &[u64], at: usize, n: usize) -> u64
-    requires { ⌜ (n ≤ 40) × (at + 16 * n ≤ length (now words)) ⌝ }
-    requires { ⌜ ((i : ℕ) → i < n → vehiclesAt (now words) at i ≤ 2000000000000) ⌝ }
-    ensures { λ r. ⌜ (r ≡ sumOf (vehiclesAt (now (words .entry)) at) n) × (r ≤ 2000000000000 * n) ⌝ }
-{
-    let mut sum: u64 = 0;
-    let mut i: usize = 0;
-    while i < n {
-        let a = at + 16 * i;
-        let b = a + 1;
-        sum = sum + (words[a] + words[b]);
         i += 1;
     }
     sum

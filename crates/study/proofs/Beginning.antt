@@ -23,7 +23,7 @@ use Rattle.book.specs.Calls.{start}
 use Rattle.metanet.specs.Start.{startState, startCase}
 use Rattle.book.specs.Perform.{lent, startWords, startSpeeds, stored}
 use Rattle.study.specs.Ready.{openWords, openWordsOn, beginWords}
-use Rattle.study.proofs.Starting.{same-segment}
+use Rattle.refusal.proofs.Starting.{same-segment}
 
 -- ---- what is written, part by part
 

@@ -1,7 +1,1 @@
 pub mod Beginning
-pub mod Reporting
-pub mod Settings
-pub mod Slots
-pub mod Starting
-pub mod Stepping
-pub mod Writing

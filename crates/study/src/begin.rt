@@ -3,101 +3,11 @@ ghost use mathlib.Core.Path.{_≡_};
 ghost use Prim.Native.Nat.{_+_, _*_, _<_, _≤_};
 ghost use lib.ListN.{length, getD, drop, replicate};
 ghost use mathlib.Core.List.{_++_};
-ghost use Rattle.laws.specs.First.{firstOf};
 ghost use Rattle.laws.specs.Lists.{table, putPart, puts};
 ghost use Rattle.laws.specs.Real.{real};
 ghost use Rattle.format.specs.File.{fileNumber, headOf, segmentOn};
 ghost use Rattle.book.specs.Arrangement.{startMarks};
-ghost use Rattle.book.specs.Calls.{start};
-ghost use Rattle.metanet.specs.Start.{startSegmentNumber};
-ghost use Rattle.book.specs.Perform.{lent, refusalAt};
-ghost use Rattle.study.specs.Ready.{startNumberOn, Listed, openWords, openWordsOn, beginWords};
-
-fn wide(x: u32) -> u64
-    ensures { λ r. ⌜ r ≡ x ⌝ }
-{
-    x as u64
-}
-
-// Number i of a list.
-fn entry(list: &[u32], i: usize) -> u64
-    requires { ⌜ i < length (now list) ⌝ }
-    ensures { λ r. ⌜ r ≡ getD (now (list .entry)) i 0 ⌝ }
-{
-    wide(list[i])
-}
-
-// 14, of a segment whose curve begins at top, for its mv, speed and queue.
-fn value_number(s: format::Segment, top: u64, mv: u64, speed: u64, queue: u64) -> u64
-    requires { ⌜ (s .jam ≤ 200) × (s .metres ≤ 2000) × (s .lanes ≤ 8) ⌝ }
-    ensures { λ r. ⌜ r ≡ startSegmentNumber s top mv speed queue ⌝ }
-{
-    let full = s.jam * (s.metres * s.lanes);
-    if (full < mv)
-        | ((speed < 1000) | (top < speed))
-        | (1000000 < queue)
-        | ((s.origin == 0) & (0 < queue))
-    {
-        return 14;
-    }
-    0
-}
-
-// 14, of segment i, counted from 0.
-fn segment_number(file: &[u8], mvs: &[u32], initial: &[u32], queues: &[u32], i: usize) -> u64
-    requires { ⌜ Listed (now file) (now mvs) (now initial) (now queues) ⌝ }
-    requires { ⌜ i < headOf (now file) .size ⌝ }
-    ensures { λ r. ⌜ r ≡ startNumberOn (now (file .entry)) (now (mvs .entry)) (now (initial .entry)) (now (queues .entry)) i ⌝ }
-{
-    let s = network::segment_of(file, i as u32);
-    let top = network::entry_of(file, s.curve as u32, 0);
-    let mv = entry(mvs, i);
-    let speed = entry(initial, i);
-    let queue = entry(queues, i);
-    value_number(s, top, mv, speed, queue)
-}
-
-fn segments_number(file: &[u8], mvs: &[u32], initial: &[u32], queues: &[u32], n: usize) -> u64
-    requires { ⌜ Listed (now file) (now mvs) (now initial) (now queues) ⌝ }
-    requires { ⌜ n ≡ headOf (now file) .size ⌝ }
-    ensures { λ r. ⌜ r ≡ firstOf (startNumberOn (now (file .entry)) (now (mvs .entry)) (now (initial .entry)) (now (queues .entry))) n ⌝ }
-{
-    let mut i = 0;
-    while i < n {
-        let r = segment_number(file, mvs, initial, queues, i);
-        if r != 0 {
-            return r;
-        }
-        i += 1;
-    }
-    0
-}
-
-// The file's rows, then 11, 13 and 14.
-pub(crate) fn start_number(
-    words: &[u64],
-    speeds: &[f64],
-    file: &[u8],
-    mvs: &[u32],
-    initial: &[u32],
-    queues: &[u32],
-) -> u64
-    ensures { λ r. ⌜ r ≡ refusalAt (start (now (file .entry)) (now (mvs .entry)) (now (initial .entry)) (now (queues .entry))) (lent (now (words .entry)) (now (speeds .entry))) ⌝ }
-{
-    let r = network::check(file);
-    if r != 0 {
-        return r;
-    }
-    let h = network::head_of(file);
-    let n = h.size as usize;
-    if (words.len() < crate::FIRST_CASE + 7 * (16 * n + 8)) | (speeds.len() < 7 * n) {
-        return 11;
-    }
-    if (mvs.len() != n) | (initial.len() != n) | (queues.len() != n) {
-        return 13;
-    }
-    segments_number(file, mvs, initial, queues, n)
-}
+ghost use Rattle.study.specs.Ready.{openWords, openWordsOn, beginWords};
 
 // A state at the start: dark sign, open ramp with R at Q, flows 0.
 fn state_words(mv: u64, queue: u64, most: u64) -> [u64; 16]
@@ -112,7 +22,11 @@ fn put_state(state: &mut [u64], file: &[u8], mvs: &[u32], queues: &[u32], i: usi
     ensures { λ _. ⌜ now (state .exit) ≡ openWords (getD (now (mvs .entry)) i 0) (getD (now (queues .entry)) i 0) (segmentOn (now (file .entry)) i .most) ⌝ }
 {
     let s = network::segment_of(file, i as u32);
-    let made = state_words(entry(mvs, i), entry(queues, i), s.most);
+    let made = state_words(
+        refusal::start::entry(mvs, i),
+        refusal::start::entry(queues, i),
+        s.most,
+    );
     arrays::put_words(&made, state);
 }
 
@@ -123,7 +37,7 @@ fn put_states(words: &mut [u64], file: &[u8], mvs: &[u32], queues: &[u32], n: us
 {
     let mut i = 0;
     while i < n {
-        let to = crate::FIRST_CASE + 16 * i;
+        let to = case_words::FIRST_CASE + 16 * i;
         put_state(&mut words[to..to + 16], file, mvs, queues, i);
         i += 1;
     }
@@ -156,8 +70,11 @@ fn put_marks(words: &mut [u64])
     ensures { λ _. ⌜ now (words .exit) ≡ putPart 2560 16 startMarks (now (words .entry)) ⌝ }
 {
     let mut marks = [0; 16];
-    marks[15] = crate::ARRANGEMENT;
-    arrays::put_words(&marks, &mut words[crate::RUN_WORD..crate::FIRST_CASE]);
+    marks[15] = case_words::ARRANGEMENT;
+    arrays::put_words(
+        &marks,
+        &mut words[case_words::RUN_WORD..case_words::FIRST_CASE],
+    );
 }
 
 // Writes the network, the run count and the marks, and the words of the live case.
@@ -169,5 +86,5 @@ pub(crate) fn put_words(words: &mut [u64], file: &[u8], mvs: &[u32], queues: &[u
     network_words::keep(file, words);
     put_marks(words);
     put_states(words, file, mvs, queues, n);
-    put_zeros(words, crate::FIRST_CASE + 16 * n, 8);
+    put_zeros(words, case_words::FIRST_CASE + 16 * n, 8);
 }

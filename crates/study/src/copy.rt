@@ -37,8 +37,8 @@ pub(crate) fn copy_words(words: &mut [u64], n: usize, j: usize, k: usize)
     copy_word_part(
         words,
         &mut buffer,
-        crate::FIRST_CASE + j * len,
-        crate::FIRST_CASE + k * len,
+        case_words::FIRST_CASE + j * len,
+        case_words::FIRST_CASE + k * len,
         len,
     );
 }

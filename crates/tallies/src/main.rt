@@ -29,7 +29,7 @@ fn line(f: book::CaseFigures) {
 
 // The live case's figures.
 fn tally(words: &[u64], speeds: &[f64]) {
-    match study::report(words, speeds, 0) {
+    match reports::report(words, speeds, 0) {
         book::CaseReport::Refused(number) => last(number),
         book::CaseReport::Figures(f) => line(f),
     }

@@ -4,7 +4,7 @@ use borrow.Author.Needs.{needs}
 use Rattle.book.specs.Calls.{recall, dropSlot}
 use Rattle.book.specs.Perform.{refusalAt, lent}
 use Rattle.book.proofs.Performing.{refuses}
-use Rattle.study.proofs.Slots.{SlotAt, drop-as-recall, recall-slot, dropped}
+use Rattle.refusal.proofs.Slots.{SlotAt, drop-as-recall, recall-slot, dropped}
 use Rattle.study.proofs.drop_slot.Statement.{statement}
 use Rattle.study.proofs.drop_slot.Tie as tie
 

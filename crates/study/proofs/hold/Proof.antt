@@ -5,7 +5,7 @@ use Rattle.book.specs.Calls.{hold}
 use Rattle.book.specs.Perform.{refusalAt, lent}
 use Rattle.book.proofs.Judging.{size-high}
 use Rattle.book.proofs.Performing.{refuses}
-use Rattle.study.proofs.Slots.{SlotAt, hold-slot, held}
+use Rattle.refusal.proofs.Slots.{SlotAt, hold-slot, held}
 use Rattle.study.proofs.hold.Statement.{statement}
 use Rattle.study.proofs.hold.Tie as tie
 

@@ -11,7 +11,7 @@ use Rattle.book.specs.Perform.{refusalAt, stateWord, answerOf, lent, changed, s
 use Rattle.metanet.specs.Words.{meteredWords}
 use Rattle.metanet.specs.Line.{metered}
 use Rattle.book.proofs.Performing.{refuses, accepts}
-use Rattle.study.proofs.Settings.{StateWithin, meter-within}
+use Rattle.refusal.proofs.Settings.{StateWithin, meter-within}
 use Rattle.study.proofs.meter.Statement.{statement}
 use Rattle.study.proofs.meter.Tie as tie
 

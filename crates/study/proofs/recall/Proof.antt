@@ -5,7 +5,7 @@ use Rattle.book.specs.Calls.{recall}
 use Rattle.book.specs.Perform.{refusalAt, lent}
 use Rattle.book.proofs.Judging.{size-high}
 use Rattle.book.proofs.Performing.{refuses}
-use Rattle.study.proofs.Slots.{SlotAt, recall-slot, recalled}
+use Rattle.refusal.proofs.Slots.{SlotAt, recall-slot, recalled}
 use Rattle.study.proofs.recall.Statement.{statement}
 use Rattle.study.proofs.recall.Tie as tie
 

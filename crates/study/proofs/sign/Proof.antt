@@ -12,7 +12,7 @@ use Rattle.metanet.specs.Change.{complianceBad}
 use Rattle.book.specs.Perform.{refusalAt, stateWord, answerOf, lent, changed, stored}
 use Rattle.metanet.specs.Words.{signedWords}
 use Rattle.book.proofs.Performing.{refuses, accepts}
-use Rattle.study.proofs.Settings.{StateWithin, sign-within, sign-compliance}
+use Rattle.refusal.proofs.Settings.{StateWithin, sign-within, sign-compliance}
 use Rattle.study.proofs.sign.Statement.{statement}
 use Rattle.study.proofs.sign.Tie as tie
 

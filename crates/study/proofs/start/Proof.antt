@@ -8,7 +8,7 @@ use Rattle.format.specs.File.{headOf}
 use Rattle.book.specs.Calls as calls
 use Rattle.book.specs.Perform.{lent, refusalAt, answerOf}
 use Rattle.book.proofs.Performing.{refuses, accepts}
-use Rattle.study.proofs.Starting.{start-file, start-room, start-lane, start-listed}
+use Rattle.refusal.proofs.Starting.{start-file, start-room, start-lane, start-listed}
 use Rattle.study.proofs.Beginning.{start-words, start-speeds}
 use Rattle.study.proofs.start.Statement.{statement}
 use Rattle.study.proofs.start.Tie as tie

@@ -11,7 +11,7 @@ use Rattle.book.specs.Calls.{item}
 use Rattle.book.specs.Sound.{sound}
 use Rattle.book.specs.Perform.{lent, refusalAt, answerOf}
 use Rattle.book.proofs.Performing.{refuses, accepts, accepted-sound}
-use Rattle.study.proofs.Stepping.{runs-left, step-ready, step-totals, step-long, step-words, step-speeds}
+use Rattle.refusal.proofs.Stepping.{runs-left, step-ready, step-totals, step-long, step-words, step-speeds}
 use Rattle.study.proofs.step.Statement.{statement}
 use Rattle.study.proofs.step.Tie as tie
 

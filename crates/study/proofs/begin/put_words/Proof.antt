@@ -2,7 +2,7 @@
 use native.Mathlib.Omega.{arith}
 use denote.Ref.{now}
 use borrow.Author.Needs.{needs}
-use Rattle.study.proofs.Starting.{size-high}
+use Rattle.refusal.proofs.Starting.{size-high}
 use Rattle.study.proofs.Beginning.{begun}
 use Rattle.study.proofs.begin.put_words.Statement.{statement}
 use Rattle.study.proofs.begin.put_words.Tie as tie

@@ -8,7 +8,7 @@ use mir.Syntax.{w64}
 use mir.Val.{Fits, SFits, toZ, ofZ}
 use mir.ValLaws.{toZ-ofZ}
 use Rattle.metanet.specs.Change.{complianceWord}
-use Rattle.study.proofs.Settings.{compliance-word, compliance-word-high}
+use Rattle.refusal.proofs.Settings.{compliance-word, compliance-word-high}
 use Rattle.study.proofs.change.compliance_word.Statement.{statement}
 use Rattle.study.proofs.change.compliance_word.Tie as tie
 

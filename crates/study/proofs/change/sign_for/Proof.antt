@@ -3,7 +3,7 @@ use mir.Syntax.{w64}
 use mir.ValLaws.{toZ-ofZ}
 use borrow.Author.Needs.{needs}
 use Rattle.metanet.specs.Change.{complianceWord}
-use Rattle.study.proofs.Settings.{shown-sign}
+use Rattle.refusal.proofs.Settings.{shown-sign}
 use Rattle.study.proofs.change.sign_for.Statement.{statement}
 use Rattle.study.proofs.change.sign_for.Tie as tie
 

@@ -1,6 +1,0 @@
-use borrow.Author.Tests.{eq-eqb, ne-eqb}
-use Rattle.model.proofs.segment.is_on_ramp.Statement.{statement}
-use Rattle.model.proofs.segment.is_on_ramp.Tie as tie
-
-pub is-on-ramp-spec : {M : Type 1} → statement M
-is-on-ramp-spec = tie.close (tie.spec (λ c. simp (eq-eqb _ _ (c .if1 .taken))) (λ c. simp (ne-eqb _ _ (c .if1 .left))))

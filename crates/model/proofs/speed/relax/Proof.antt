@@ -1,6 +1,0 @@
-use borrow.Author.Needs.{needs}
-use Rattle.model.proofs.speed.relax.Statement.{statement}
-use Rattle.model.proofs.speed.relax.Tie as tie
-
-pub relax-spec : {M : Type 1} → statement M
-relax-spec = tie.close (tie.spec (λ c κs. search needs) (λ c κs. search needs) (λ c. cc))

@@ -1,0 +1,5 @@
+pub mod Asking
+pub mod Settings
+pub mod Slots
+pub mod Starting
+pub mod Stepping

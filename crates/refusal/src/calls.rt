@@ -1,0 +1,168 @@
+// The number that refuses a call: 12 where the study is not sound, then the rows of its part of the table in their order, or 0.
+use crate::arrivals;
+use crate::segment;
+use metanet::Setting;
+ghost use mathlib.Core.Path.{_≡_};
+ghost use Rattle.metanet.specs.Change.{complianceBad, signRefused, settingRefused};
+ghost use Rattle.metanet.specs.Line.{signed, metered, stepped};
+ghost use Rattle.book.specs.Question.{totals, segment, ofCase};
+ghost use Rattle.book.specs.Calls.{item, hold, recall, question};
+ghost use Rattle.book.specs.Perform.{lent, refusalAt};
+
+fn compliance_bad(compliance: i64) -> bool
+    ensures { λ r. ⌜ r ≡ complianceBad compliance ⌝ }
+{
+    (compliance < -500) | (500 < compliance)
+}
+
+// 18.
+fn sign_bad(limit: u64, compliance: i64) -> bool
+    ensures { λ r. ⌜ r ≡ signRefused limit compliance ⌝ }
+{
+    ((limit != 0) & arrays::outside(20, limit, 200)) | compliance_bad(compliance)
+}
+
+// 20, where the segment's Q is most.
+fn setting_bad(most: u64, setting: Setting) -> bool
+    ensures { λ r. ⌜ r ≡ settingRefused most setting ⌝ }
+{
+    match setting {
+        Setting::Open => false,
+        Setting::Fixed(rate) => most < rate,
+        Setting::Alinea {
+            target,
+            gain,
+            least,
+            interval,
+        } => {
+            arrays::outside(1, target, 199)
+                | arrays::outside(1, gain, 60000)
+                | (most < least)
+                | arrays::outside(1, interval, 60)
+        }
+    }
+}
+
+// Sign: 12, 17, 18.
+pub fn sign_number(words: &[u64], speeds: &[f64], i: u64, limit: u64, compliance: i64) -> u64
+    ensures { λ r. ⌜ r ≡ refusalAt (item (signed i limit compliance)) (lent (now (words .entry)) (now (speeds .entry))) ⌝ }
+{
+    if !sound::sound(words, speeds) {
+        return 12;
+    }
+    if segment::segment_missing(words, i) {
+        return 17;
+    }
+    if sign_bad(limit, compliance) {
+        return 18;
+    }
+    0
+}
+
+// Meter: 12, 17, 19, 20.
+pub fn meter_number(words: &[u64], speeds: &[f64], i: u64, setting: Setting) -> u64
+    ensures { λ r. ⌜ r ≡ refusalAt (item (metered i setting)) (lent (now (words .entry)) (now (speeds .entry))) ⌝ }
+{
+    if !sound::sound(words, speeds) {
+        return 12;
+    }
+    if segment::segment_missing(words, i) {
+        return 17;
+    }
+    let s = segment::segment_at(words, i);
+    if (i == 1) | (s.origin == 0) {
+        return 19;
+    }
+    if setting_bad(s.most, setting) {
+        return 20;
+    }
+    0
+}
+
+// Step: 12, 13, 15, 16.
+pub fn step_number(words: &[u64], speeds: &[f64], arrivals: &[u32]) -> u64
+    ensures { λ r. ⌜ r ≡ refusalAt (item (stepped (now (arrivals .entry)))) (lent (now (words .entry)) (now (speeds .entry))) ⌝ }
+{
+    if !sound::sound(words, speeds) {
+        return 12;
+    }
+    let n = words[1] as usize;
+    let r = arrivals::step_number(
+        &words[..network_words::NETWORK_WORDS],
+        arrivals,
+        n,
+        words[case_words::FIRST_CASE + 16 * n],
+    );
+    if r != 0 {
+        return r;
+    }
+    if 1000000 <= words[case_words::RUN_WORD] {
+        return 16;
+    }
+    0
+}
+
+// Hold: 12; 21 no such slot; 22 a filled one.
+pub fn hold_number(words: &[u64], speeds: &[f64], k: u64) -> u64
+    ensures { λ r. ⌜ r ≡ refusalAt (hold k) (lent (now (words .entry)) (now (speeds .entry))) ⌝ }
+{
+    if !sound::sound(words, speeds) {
+        return 12;
+    }
+    if (k < 1) | (6 < k) {
+        return 21;
+    }
+    if words[case_words::RUN_WORD + k as usize] == 1 {
+        return 22;
+    }
+    0
+}
+
+// Recall, and Drop by the same rows: 12; 21 no such slot; 23 an empty one.
+pub fn recall_number(words: &[u64], speeds: &[f64], k: u64) -> u64
+    ensures { λ r. ⌜ r ≡ refusalAt (recall k) (lent (now (words .entry)) (now (speeds .entry))) ⌝ }
+{
+    if !sound::sound(words, speeds) {
+        return 12;
+    }
+    if (k < 1) | (6 < k) {
+        return 21;
+    }
+    if words[case_words::RUN_WORD + k as usize] != 1 {
+        return 23;
+    }
+    0
+}
+
+// A question about case k, before its own rows, of which totals has none: 12; 21 no such slot; 23 an empty one. Case 0 is the live one.
+pub fn case_number(words: &[u64], speeds: &[f64], k: u64) -> u64
+    ensures { λ r. ⌜ r ≡ refusalAt (question (ofCase k totals)) (lent (now (words .entry)) (now (speeds .entry))) ⌝ }
+{
+    if !sound::sound(words, speeds) {
+        return 12;
+    }
+    if 6 < k {
+        return 21;
+    }
+    if k == 0 {
+        return 0;
+    }
+    if words[case_words::RUN_WORD + k as usize] != 1 {
+        return 23;
+    }
+    0
+}
+
+// Report of segment i of case k: 17 segment outside 1..n, after 21 and 23.
+pub fn segment_number(words: &[u64], speeds: &[f64], k: u64, i: u64) -> u64
+    ensures { λ r. ⌜ r ≡ refusalAt (question (ofCase k (segment i))) (lent (now (words .entry)) (now (speeds .entry))) ⌝ }
+{
+    let r = case_number(words, speeds, k);
+    if r != 0 {
+        return r;
+    }
+    if (i < 1) | (words[1] < i) {
+        return 17;
+    }
+    0
+}

@@ -1,0 +1,58 @@
+use Prim.Native.Nat.{_≤_}
+use mathlib.Core.Path.{ap}
+use native.Mathlib.Omega.{arith}
+use borrow.Author.Needs.{needs}
+use Rattle.metanet.specs.declared.Ramp.{Ramp}
+use Rattle.metanet.specs.Step.{newState}
+use Rattle.metanet.proofs.SegmentLaws.{rate-high}
+use Rattle.segment.proofs.state.new_state.Statement.{statement}
+use Rattle.segment.proofs.state.new_state.Tie as tie
+
+-- from the release back to the ramp, and to the start
+abbrev ramp : tie.After-release-of → tie.After-new-ramp
+ramp c = c .before .before .before
+
+abbrev start : tie.After-release-of → tie.Start
+start c = ramp c .before .before .before .before
+
+released : (c : tie.After-release-of) → c .release-of .result ≤ 300000
+released c =
+    let s = start c in
+    let p = s .pre in
+    let rate = ap (λ (x : Ramp). x .rate) (ramp c .new-ramp .ensures) in
+    omega (arith, rate, rate-high (s .args .s) (p .1 .1 .0 .ramp) (s .args .r .count) (s .args .t), p .1 .0 .most-high, c .release-of .ensures)
+
+new-speed-requires : tie.Need-new-speed-requires
+new-speed-requires c κs =
+    let release = c .before .before in
+    let p = start release .pre in
+    (p .0, (p .1 .0 .metres-high, p .1 .0 .lanes-high, p .1 .0 .fast, released release))
+
+add-t20 : tie.Need-add-t20
+add-t20 c = let r = c .before .before .before .before in omega (arith, released r, start r .pre)
+
+add-t21 : tie.Need-add-t21
+add-t21 c = let r = c .before .before .before .before .before in omega (arith, released r, start r .pre)
+
+returns : tie.Need-returns
+unfolding newState
+returns c =
+    let speed = c .before .before in
+    let release = speed .before .before .before in
+    simp (
+      speed .new-speed .ensures,
+      speed .before .density-of .ensures,
+      speed .before .before .outflow-of .ensures .0,
+      release .release-of .ensures,
+      release .before .jam-bound .ensures,
+      ramp release .new-ramp .ensures,
+      ramp release .before .before .before .area-of .ensures .0,
+    )
+
+pub new-state-spec : {M : Type 1} → statement M
+new-state-spec =
+    tie.close
+    (tie.spec
+    (λ c κs. search needs) (λ c κs. search needs) (λ c. search needs) (λ c κs. search needs) (λ c κs. search needs)
+    (λ c κs. search needs) (λ c κs. search needs) new-speed-requires add-t20 add-t21 (λ c. search needs)
+    (λ c. search needs) returns)

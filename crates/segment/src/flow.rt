@@ -1,0 +1,82 @@
+// Rates, releases and flows of one segment, in mv.
+use metanet::Ramp;
+ghost use mathlib.Core.Path.{_≡_};
+ghost use Prim.Native.Nat.{_<_, _≤_, min, max};
+ghost use Rattle.metanet.specs.Flow.{jamBound, alineaRate, releaseOf, outflowOf, exitPart};
+ghost use Rattle.metanet.proofs.Ready.{RampOk};
+
+// The most that a segment with n mv lets in from its origin: 0 from the jam density on.
+pub fn jam_bound(most: u64, jam: u64, critical: u64, g: u64, n: u64) -> u64
+    requires { ⌜ (most ≤ 300000) × (jam ≤ 200) × (critical < jam) × (0 < g) × (g ≤ 16000) ⌝ }
+    ensures { λ r. ⌜ r ≡ jamBound most jam critical g n ⌝ }
+{
+    let full = jam * g;
+    if full <= n {
+        return 0;
+    }
+    most * (full - n) / ((jam - critical) * g)
+}
+
+// x kept in least..most.
+fn bounded(least: u64, most: u64, x: u64) -> u64
+    requires { ⌜ least ≤ most ⌝ }
+    ensures { λ r. ⌜ r ≡ max least (min x most) ⌝ }
+{
+    if x < least {
+        return least;
+    }
+    if most < x {
+        return most;
+    }
+    x
+}
+
+// ALINEA's new rate on an area g with n mv; the quotient goes towards zero on either side of the target.
+pub fn alinea(r: Ramp, most: u64, g: u64, n: u64) -> u64
+    requires { ⌜ RampOk most r ⌝ }
+    requires { ⌜ (most ≤ 300000) × (0 < g) × (g ≤ 16000) × (n ≤ 1000000000000) ⌝ }
+    ensures { λ x. ⌜ x ≡ alineaRate r most g n ⌝ }
+{
+    let wanted = r.target * g;
+    if n <= wanted {
+        let up = r.gain * (wanted - n) / g;
+        return bounded(r.least, most, r.rate + up);
+    }
+    let down = r.gain * (n - wanted) / g;
+    if down < r.rate {
+        return bounded(r.least, most, r.rate - down);
+    }
+    bounded(r.least, most, 0)
+}
+
+// The least of three.
+pub fn release_of(waiting: u64, rate: u64, bound: u64) -> u64
+    ensures { λ r. ⌜ r ≡ releaseOf waiting rate bound ⌝ }
+{
+    if waiting <= rate {
+        if waiting <= bound {
+            return waiting;
+        }
+        return bound;
+    }
+    if rate <= bound {
+        return rate;
+    }
+    bound
+}
+
+// What n mv at s m/h let out of l metres in t seconds.
+pub fn outflow(n: u64, s: u64, t: u64, l: u64) -> u64
+    requires { ⌜ (n ≤ 1000000000000) × (s ≤ 200000) × (t ≤ 60) × (0 < l) × (l ≤ 2000) ⌝ }
+    ensures { λ r. ⌜ r ≡ outflowOf n s t l ⌝ }
+{
+    n * s * t / (3600 * l)
+}
+
+// What of an outflow leaves by the off-ramp.
+pub fn exit_part(outflow: u64, share: u64) -> u64
+    requires { ⌜ (outflow ≤ 1000000000000) × (share ≤ 1000) ⌝ }
+    ensures { λ r. ⌜ r ≡ exitPart outflow share ⌝ }
+{
+    outflow * share / 1000
+}

@@ -12,6 +12,7 @@ use Rattle.metanet.specs.declared.SegmentState.{SegmentState}
 use Rattle.metanet.specs.Step.{rateOf}
 use Rattle.book.specs.declared.CaseFigures.{CaseFigures}
 use Rattle.book.specs.declared.SegmentFigures.{SegmentFigures}
+use Rattle.case_words.specs.Sums.{figureAt}
 
 -- the figures of that case, which has n states
 unfoldable pub figuresAt : List ℕ → ℕ → ℕ → CaseFigures

@@ -117,7 +117,7 @@ pub fn column(words: &[u64], at: usize, o: usize, n: usize) -> u64
     sum
 }
 
-// A whole number made binary64. Up to 2^53 a underSign number serves, which the machine converts in one step.
+// A whole number made binary64. Up to 2^53 a signed number serves, which the machine converts in one step.
 pub fn whole(n: u64) -> f64
     requires { ⌜ n ≤ 9007199254740992 ⌝ }
     ensures { λ r. ⌜ r ≡ real n ⌝ }

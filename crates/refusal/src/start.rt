@@ -9,7 +9,7 @@ ghost use Rattle.metanet.specs.Start.{startSegmentNumber};
 ghost use Rattle.book.specs.Perform.{lent, refusalAt};
 ghost use Rattle.refusal.specs.Ready.{startNumberOn, Listed};
 
-pub fn wide(x: u32) -> u64
+fn wide(x: u32) -> u64
     ensures { λ r. ⌜ r ≡ x ⌝ }
 {
     x as u64
@@ -24,7 +24,7 @@ pub fn entry(list: &[u32], i: usize) -> u64
 }
 
 // 14, of a segment whose curve begins at top, for its mv, speed and queue.
-pub fn value_number(s: format::Segment, top: u64, mv: u64, speed: u64, queue: u64) -> u64
+fn value_number(s: format::Segment, top: u64, mv: u64, speed: u64, queue: u64) -> u64
     requires { ⌜ (s .jam ≤ 200) × (s .metres ≤ 2000) × (s .lanes ≤ 8) ⌝ }
     ensures { λ r. ⌜ r ≡ startSegmentNumber s top mv speed queue ⌝ }
 {
@@ -40,7 +40,7 @@ pub fn value_number(s: format::Segment, top: u64, mv: u64, speed: u64, queue: u6
 }
 
 // 14, of segment i, counted from 0.
-pub fn segment_number(file: &[u8], mvs: &[u32], initial: &[u32], queues: &[u32], i: usize) -> u64
+fn segment_number(file: &[u8], mvs: &[u32], initial: &[u32], queues: &[u32], i: usize) -> u64
     requires { ⌜ Listed (now file) (now mvs) (now initial) (now queues) ⌝ }
     requires { ⌜ i < headOf (now file) .size ⌝ }
     ensures { λ r. ⌜ r ≡ startNumberOn (now (file .entry)) (now (mvs .entry)) (now (initial .entry)) (now (queues .entry)) i ⌝ }
@@ -53,7 +53,7 @@ pub fn segment_number(file: &[u8], mvs: &[u32], initial: &[u32], queues: &[u32],
     value_number(s, top, mv, speed, queue)
 }
 
-pub fn segments_number(file: &[u8], mvs: &[u32], initial: &[u32], queues: &[u32], n: usize) -> u64
+fn segments_number(file: &[u8], mvs: &[u32], initial: &[u32], queues: &[u32], n: usize) -> u64
     requires { ⌜ Listed (now file) (now mvs) (now initial) (now queues) ⌝ }
     requires { ⌜ n ≡ headOf (now file) .size ⌝ }
     ensures { λ r. ⌜ r ≡ firstOf (startNumberOn (now (file .entry)) (now (mvs .entry)) (now (initial .entry)) (now (queues .entry))) n ⌝ }

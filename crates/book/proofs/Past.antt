@@ -47,7 +47,7 @@ module _ (m : ℕ) where
     unfolding stored refusal
     store-past (start file mvs initial queues) e h =
         begun-past (start-store file mvs initial queues a (groundsIn words speeds b) (r .words-long) (r .speeds-long) e) (leb-true _ _ h)
-    store-past (item i) e h = stored-past (item-store r i)
+    store-past (item i) e h = stored-past (item-store r i e)
     store-past (hold k) e h = stored-past (hold-store r k e)
     store-past (recall k) e h = stored-past (recall-store r k e)
     store-past (dropSlot k) e h = stored-past (drop-store r k e)

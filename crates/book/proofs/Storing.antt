@@ -1,6 +1,6 @@
 -- What each accepted call stores: arrays that held the book then hold what the book enters.
 use Prim.Native.Nat.{ℕ, zero, suc, _+_, _≤_, _<_}
-use mathlib.Core.Path.{_≡_, sym, _∙_, subst}
+use mathlib.Core.Path.{_≡_, sym, ap, _∙_, subst}
 use mathlib.Core.Bool.{false, _||_, true}
 use mathlib.Core.List.{List, [], _∷_, _++_}
 use mathlib.Core.Option.{none, some}
@@ -21,7 +21,7 @@ use Rattle.book.specs.Perform.{Arrays, stored, changed}
 use Rattle.metanet.specs.Line.{Item, metered, stepped, Line, change, caseOf, itemSteps, signed}
 use Rattle.book.specs.Book.{Book, started, entered, groundsIn, isFilled}
 use Rattle.book.proofs.Rel.{Kept, Rel}
-use Rattle.book.proofs.Views.{filled-some}
+use Rattle.book.proofs.Views.{filled-some, size-view}
 use Rattle.book.proofs.Stored.{Stored, Begun, withWord, studyWord}
 use Rattle.book.proofs.ItemStore.{item-stored}
 use Rattle.book.proofs.SlotStores.{hold-stored, recall-stored, drop-stored}
@@ -51,10 +51,6 @@ module _ {words speeds : ℕ} {a : Arrays} {b : Book} (r : Rel words speeds a b)
       same zero = e
       same (suc j) = rw (ne-eqb (suc j) 0 (λ q. omega (arith, q)))
 
-  pub item-store : (i : Item)
-      → Stored a (changed i a) 0 (change (networkAt (a .words)) (caseAt (a .words) (a .speeds) 0) i) (withWord (studyWord (a .words)) 0 (b .runs + itemSteps i))
-  item-store i = rw (r .runs) at (item-stored a (fit r) i)
-
   item-good : (i : Item) → itemNumber i (groundsIn words speeds b) ≡ 0 → Good (b .network) (b .begun) (b .live ++ (i ∷ []))
   unfolding itemNumber
   item-good (signed i limit compliance) e =
@@ -63,6 +59,12 @@ module _ {words speeds : ℕ} {a : Arrays} {b : Book} (r : Rel words speeds a b)
       let later = row-later _ _ _ e in
       good-meter (r .live .good) i (row-passed _ _ _ e) setting (row-passed _ _ _ later) (row-passed _ _ _ (row-later _ _ _ later))
   item-good (stepped ds) e = good-step (r .live .good) ds (first-zero-left _ _ e)
+
+  pub item-store : (i : Item) → itemNumber i (groundsIn words speeds b) ≡ 0
+      → Stored a (changed i a) 0 (change (networkAt (a .words)) (caseAt (a .words) (a .speeds) 0) i) (withWord (studyWord (a .words)) 0 (b .runs + itemSteps i))
+  item-store i e =
+      let many = ap (λ (c : Case). length (c .states)) (item-case i) ∙ item-good i e .many ∙ sym (size-view r) in
+      rw (r .runs) at (item-stored a (fit r) i many)
 
   item-runs : (i : Item) → itemNumber i (groundsIn words speeds b) ≡ 0 → b .runs + itemSteps i ≤ 1000000
   unfolding itemNumber
@@ -75,7 +77,7 @@ module _ {words speeds : ℕ} {a : Arrays} {b : Book} (r : Rel words speeds a b)
   pub item-rel : (i : Item) → itemNumber i (groundsIn words speeds b) ≡ 0 → Rel words speeds (changed i a) (entered (item i) b)
   unfolding entered
   item-rel i e =
-      live-rel r (b .runs + itemSteps i) (item-store i) (b .live ++ (i ∷ [])) (item-good i e) (item-case i) (item-runs i e)
+      live-rel r (b .runs + itemSteps i) (item-store i e) (b .live ++ (i ∷ [])) (item-good i e) (item-case i) (item-runs i e)
 
   module _ (k : ℕ) (there : outside 1 k 6 ≡ false) where
     low : 1 ≤ k

@@ -3,17 +3,16 @@ use Prim.Native.Nat.{ℕ, _+_, _*_, _≤_, _<_}
 use native.Mathlib.Omega.{arith}
 use mathlib.Core.Path.{_≡_, refl, _∙_}
 use mathlib.Core.List.{[], _∷_, _++_}
-use lib.ListN.{length, length-set}
+use lib.ListN.{length}
 use Rattle.format.specs.Network.{Network, entryOf, segmentOf}
 use Rattle.format.proofs.Accepted.{RowsWithin}
 use Rattle.format.proofs.Rows.{rows-within}
 use Rattle.metanet.specs.Case.{Case}
-use Rattle.metanet.specs.Step.{totalOf, stepOn, stepStates, stepState}
+use Rattle.metanet.specs.Step.{totalOf}
 use Rattle.metanet.specs.Sound.{caseNumber}
 use Rattle.metanet.proofs.Good.{GoodNetwork, Good}
 use Rattle.metanet.proofs.CaseSound.{SoundAt, case-sound}
-use Rattle.metanet.specs.Line.{signed, metered, stepped, Item, Line, change, caseOf, itemSteps, stepsOf, handedIn, arrivalsOf, letOut, exitsOf}
-use Rattle.laws.proofs.Lists.{length-table}
+use Rattle.metanet.specs.Line.{Item, Line, change, caseOf, itemSteps, stepsOf, handedIn, arrivalsOf, letOut, exitsOf}
 
 pub caseOf-snoc : (w : Network) (s : Case) (l : Line) (i : Item) → caseOf w s (l ++ (i ∷ [])) ≡ change w (caseOf w s l) i
 unfolding caseOf
@@ -34,13 +33,6 @@ pub exitsOf-snoc : (w : Network) (s : Case) (l : Line) (i : Item) → exitsOf w 
 unfolding exitsOf caseOf
 exitsOf-snoc w s [] i = omega arith
 exitsOf-snoc w s (j ∷ l) i = omega (arith, exitsOf-snoc w (change w s j) l i)
-
--- a changed case has as many states
-pub change-many : (w : Network) (c : Case) (i : Item) → length (c .states) ≡ w .head .size → length (change w c i .states) ≡ w .head .size
-unfolding change stepOn stepStates
-change-many w c (signed i limit compliance) e = length-set (c .states) _ _ ∙ e
-change-many w c (metered i setting) e = length-set (c .states) _ _ ∙ e
-change-many w c (stepped ds) e = length-table (stepState (w .head) (entryOf w) (segmentOf w) (c .states) (c .steps) ds) (w .head .size)
 
 -- ---- a good network is within rows 4, 6, 7 and 8
 

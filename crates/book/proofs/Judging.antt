@@ -1,6 +1,6 @@
 -- Where a study's cases stand, and which row says that it is not sound.
 use Prim.Native.Nat.{ℕ, _+_, _*_, _≤_, _<_}
-use mathlib.Core.Path.{_≡_, sym, _∙_}
+use mathlib.Core.Path.{_≡_, sym, ap, _∙_}
 use mathlib.Core.Bool.{Bool, true, false, _||_, not}
 use mathlib.Core.List.{List}
 use native.Mathlib.Nat.{mul-le-mul-right, le-of-eq}
@@ -11,10 +11,12 @@ use lib.Ieee.{Float}
 use borrow.Author.Tests.{lt-ltb, le-ltb}
 use Rattle.laws.specs.First.{firstOf}
 use Rattle.laws.proofs.First.{row-applies, row-skipped, first-some, first-zero}
-use Rattle.format.specs.Words.{keptNumber}
+use Rattle.format.specs.Words.{headIn, entryIn, segmentIn, keptNumber}
 use Rattle.metanet.specs.Words.{netOf}
+use Rattle.metanet.proofs.InWords.{caseNumberIn}
 use Rattle.metanet.proofs.Ready.{CaseAt}
-use Rattle.book.specs.Arrangement.{caseWord, caseSpeed, wordsFor, speedsFor, sizeAt, runCountAt, arrangementAt}
+use Rattle.metanet.proofs.SameNetwork.{case-number-from}
+use Rattle.book.specs.Arrangement.{caseWord, caseSpeed, wordsFor, speedsFor, sizeAt, caseAt, runCountAt, arrangementAt}
 use Rattle.book.specs.Sound.{caseNumberAt, slotNumber, casesNumber, soundNumber}
 use Rattle.book.proofs.Laid.{Laid}
 
@@ -31,6 +33,12 @@ module _ {words : List ℕ} {speeds : List Float} {n : ℕ} (laid : Laid words s
         room = omega (arith, mul-le-mul-right (16 * n + 8) h, laid .room);
         speed-room = omega (arith, mul-le-mul-right n h, laid .speed-room);
       }
+
+  -- a case is judged on the words as on the network
+  pub case-judged : (k : ℕ) → caseNumberIn words speeds (caseWord n k) (caseSpeed n k) n ≡ caseNumberAt words speeds k
+  case-judged k =
+      ap (λ (m : ℕ). caseNumberIn words speeds (caseWord m k) (caseSpeed m k) m) (laid .size)
+      ∙ sym (case-number-from (headIn (netOf words)) (entryIn (netOf words)) (segmentIn (netOf words)) (λ i l. laid .net .each i l .curve-high) (caseAt words speeds k))
 
   -- ---- the cases
   abbrev pub wordsBad : Bool

@@ -11,12 +11,11 @@ pub mod Past
 pub mod Performing
 pub mod Places
 pub mod Rel
-pub mod StateStores
 pub mod Sim
 pub mod SlotStores
 pub mod Sounds
 pub mod StartStore
-pub mod StepStore
+pub mod ItemStore
 pub mod Stored
 pub mod Storing
 pub mod Views

@@ -1,41 +1,26 @@
 -- Start puts in the network and the start case, and leaves what is past the lengths that it needs.
-use Prim.Native.Nat.{ℕ, _+_, _≤_, _<_}
+use Prim.Native.Nat.{ℕ, _+_, _*_, _≤_, _<_}
 use mathlib.Core.Path.{_≡_, refl, sym, ap, _∙_}
-use mathlib.Core.List.{List, [], _∷_, _++_, append-assoc}
-use native.Mathlib.Nat.{zero-mul}
+use mathlib.Core.List.{List, _++_, append-assoc}
 use native.Mathlib.Omega.{arith}
-use lib.ListN.{length, drop, getD, length-append, length-drop, List·getD-append}
+use lib.ListN.{length, drop, getD, replicate, length-append, length-drop, length-replicate, List·getD-append}
 use lib.Seq.{take-at, drop-at, getD-drop}
-use Rattle.laws.specs.Lists.{parts}
-use Rattle.laws.proofs.Lists.{length-table, length-parts}
-use Rattle.laws.proofs.Outside.{SameOutside, drop-same}
+use Rattle.laws.proofs.Lists.{length-table}
+use Rattle.laws.proofs.Outside.{SameOutside, take-same, drop-same, getD-before, same-within, same-then}
 use Rattle.format.specs.Network.{Network, networkFrom}
 use Rattle.format.specs.File.{fileNumber, networkOf}
 use Rattle.format.specs.Words.{headIn, networkIn, keptNumber, keptWords}
 use Rattle.format.proofs.File.{network-within}
 use Rattle.format.proofs.Kept.{length-kept}
 use Rattle.format.proofs.KeptFile.{kept-file, kept-network}
-use Rattle.metanet.specs.Case.{Case, stateOf}
-use Rattle.metanet.specs.Words.{netOf, caseIn, stateWords, caseWords, caseSpeeds}
-use Rattle.metanet.proofs.StateWords.{length-state}
-use Rattle.metanet.proofs.Coded.{case-coded}
-use Rattle.book.specs.Arrangement.{caseLength, caseWord, caseSpeed, wordsFor, speedsFor, sizeAt, caseAt, startMarks}
+use Rattle.metanet.specs.Case.{Case}
+use Rattle.metanet.specs.Words.{netOf, caseIn}
+use Rattle.metanet.proofs.Put.{put-outside, put-speeds-outside, case-put}
+use Rattle.book.specs.Arrangement.{runWord, caseLength, caseWord, caseSpeed, wordsFor, speedsFor, sizeAt, caseAt, startMarks}
 use Rattle.book.specs.Calls.{start}
 use Rattle.metanet.specs.Start.{startState, startCase}
-use Rattle.book.specs.Perform.{Arrays, startWords, startSpeeds, stored}
+use Rattle.book.specs.Perform.{Arrays, lent, withLive, startWords, stored}
 use Rattle.book.proofs.Stored.{Begun, studyWord}
-
--- ---- how many words and speeds a case of n segments has
-
-length-coded : (n : ℕ) (c : Case) → length (caseWords n c) ≡ caseLength n
-unfolding caseWords
-length-coded n c =
-    length-append (parts (λ i. stateWords (stateOf (c .states) i)) n) (c .steps ∷ c .arrivals ∷ c .exits ∷ c .time ∷ 0 ∷ 0 ∷ 0 ∷ 0 ∷ [])
-    ∙ ap (λ (m : ℕ). m + 8) (length-parts 16 (λ i. stateWords (stateOf (c .states) i)) n (λ i l. length-state (stateOf (c .states) i)))
-
-length-speeds : (n : ℕ) (c : Case) → length (caseSpeeds n c) ≡ n
-unfolding caseSpeeds
-length-speeds n c = length-table (λ i. stateOf (c .states) i .speed) n
 
 marks-many : length startMarks ≡ 16
 unfolding startMarks
@@ -49,65 +34,67 @@ module _ (a : Arrays) (w : Network) (c : Case) (many : length (c .states) ≡ w 
   abbrev n : ℕ
   n = w .head .size
 
+  -- the words before the live case is put in
+  abbrev bare : List ℕ
+  bare = startWords w (a .words)
+
   abbrev z : Arrays
-  z = record { words = startWords w c (a .words); speeds = startSpeeds w c (a .speeds) }
+  z = withLive n c (lent bare (a .speeds))
 
-  -- the words before the live case, and those after it
-  abbrev front : List ℕ
-  front = keptWords w ++ startMarks
+  abbrev head : List ℕ
+  head = keptWords w ++ (startMarks ++ replicate (caseLength n) 0)
 
-  abbrev rest : List ℕ
-  rest = drop (caseWord n 1) (a .words)
+  head-long : length head ≡ caseWord n 1
+  head-long = simp (length-append, length-replicate) (omega (arith, wide, marks-many))
 
-  front-long : length front ≡ 2576
-  front-long = simp length-append (omega (arith, wide, marks-many))
-
-  words-are : z .words ≡ front ++ (caseWords n c ++ rest)
+  bare-is : bare ≡ head ++ drop (caseWord n 1) (a .words)
   unfolding startWords
-  words-are = simp append-assoc
+  bare-is = simp append-assoc
 
-  head-long : length (front ++ caseWords n c) ≡ caseWord n 1
-  head-long = simp length-append (omega (arith, wide, marks-many, length-coded n c))
+  bare-same : SameOutside 0 (caseWord n 1) (a .words) bare
+  bare-same =
+      record {
+        long = ap length bare-is ∙ simp (length-append, length-drop, length-replicate) (omega (arith, wide, marks-many));
+        before = refl;
+        after = ap (drop (caseWord n 1)) bare-is ∙ drop-at head (drop (caseWord n 1) (a .words)) (caseWord n 1) head-long;
+      }
+
+  room : caseWord n 0 + 16 * n + 8 ≤ length bare
+  room = omega (arith, bare-same .long, words-fit)
+
+  speed-room : caseSpeed n 0 + n ≤ length (a .speeds)
+  speed-room = omega (arith, speeds-fit)
+
+  put-same : SameOutside (caseWord n 0) (caseWord n 0 + caseLength n) bare (z .words)
+  put-same = put-outside (caseWord n 0) n c bare room
 
   words-same : SameOutside 0 (caseWord n 1) (a .words) (z .words)
-  words-same =
-      record {
-        long = ap length words-are ∙ simp (length-append, length-drop) (omega (arith, wide, marks-many, length-coded n c));
-        before = refl;
-        after = ap (drop (caseWord n 1)) (words-are ∙ sym (append-assoc front (caseWords n c) rest)) ∙ drop-at (front ++ caseWords n c) rest (caseWord n 1) head-long;
-      }
+  words-same = same-then bare-same (same-within put-same 0 (caseWord n 1) (omega arith) (omega arith))
 
   speeds-same : SameOutside 0 n (a .speeds) (z .speeds)
-  unfolding startSpeeds
-  speeds-same =
-      record {
-        long = simp (length-append, length-drop) (omega (arith, length-speeds n c));
-        before = refl;
-        after = drop-at (caseSpeeds n c) (drop n (a .speeds)) n (length-speeds n c);
-      }
+  speeds-same = same-within (put-speeds-outside (caseWord n 0) n c bare room (caseSpeed n 0) (a .speeds) speed-room) 0 n (omega arith) (omega arith)
 
   net-is : netOf (z .words) ≡ keptWords w
   unfolding startWords
-  net-is = take-at (keptWords w) (startMarks ++ (caseWords n c ++ rest)) 2560 wide
+  net-is = take-same put-same 2560 (omega arith) ∙ take-at (keptWords w) _ 2560 wide
 
   -- the words after the network
   word-is : (j : ℕ) → j < 16 → studyWord (z .words) j ≡ getD startMarks j 0
   unfolding startWords
   word-is j l =
-      sym (getD-drop 2560 (z .words) j 0)
-      ∙ ap (λ (m : List ℕ). getD m j 0) (drop-at (keptWords w) (startMarks ++ (caseWords n c ++ rest)) 2560 wide)
-      ∙ List·getD-append startMarks (caseWords n c ++ rest) 0 j (rw marks-many l)
+      getD-before put-same (runWord + j) 0 (omega arith)
+      ∙ sym (getD-drop 2560 bare j 0)
+      ∙ ap (λ (m : List ℕ). getD m j 0) (drop-at (keptWords w) (startMarks ++ (replicate (caseLength n) 0 ++ drop (caseWord n 1) (a .words))) 2560 wide)
+      ∙ List·getD-append startMarks (replicate (caseLength n) 0 ++ drop (caseWord n 1) (a .words)) 0 j (rw marks-many l)
 
   size-is : sizeAt (z .words) ≡ n
   unfolding networkFrom
   size-is = ap (λ (m : List ℕ). headIn m .size) net-is ∙ ap (λ (m : Network). m .head .size) back
 
   live-is : caseAt (z .words) (z .speeds) 0 ≡ c
-  unfolding startSpeeds
   live-is =
       ap (λ (m : ℕ). caseIn (z .words) (z .speeds) (caseWord m 0) (caseSpeed m 0) m) size-is
-      ∙ ap (λ (m : List ℕ). caseIn m (z .speeds) (caseWord n 0) (caseSpeed n 0) n) words-are
-      ∙ case-coded c n many front rest (caseWord n 0) (front-long ∙ omega arith) [] (drop n (a .speeds)) (caseSpeed n 0) (sym (zero-mul n))
+      ∙ case-put (caseWord n 0) n c bare room (caseSpeed n 0) (a .speeds) speed-room many
 
   begun : Begun a z w c
   begun =

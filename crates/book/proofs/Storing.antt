@@ -1,6 +1,6 @@
 -- What each accepted call stores: arrays that held the book then hold what the book enters.
 use Prim.Native.Nat.{ℕ, zero, suc, _+_, _≤_, _<_}
-use mathlib.Core.Path.{_≡_, sym, _∙_, subst}
+use mathlib.Core.Path.{_≡_, sym, ap, _∙_, subst}
 use mathlib.Core.Bool.{false, _||_, true}
 use mathlib.Core.List.{List, [], _∷_, _++_}
 use mathlib.Core.Option.{none, some}
@@ -13,23 +13,18 @@ use Rattle.laws.proofs.First.{row-passed, row-later, first-zero-left, first-zer
 use Rattle.laws.proofs.Tests.{or-left, or-right, inside-low, inside-high}
 use Rattle.format.specs.Network.{Network}
 use Rattle.format.specs.File.{fileNumber, networkOf}
-use Rattle.metanet.proofs.Ready.{CaseAt}
-use Rattle.metanet.proofs.SoundLaws.{case-ready, case-total}
-use Rattle.book.specs.Arrangement.{caseWord, caseSpeed, wordsFor, speedsFor, networkAt, sizeAt, runCountAt, caseAt, startMarks}
+use Rattle.book.specs.Arrangement.{wordsFor, speedsFor, networkAt, runCountAt, caseAt, startMarks}
 use Rattle.book.specs.Calls.{start, hold, recall, dropSlot, item}
 use Rattle.metanet.specs.Start.{startCase, startNumber}
 use Rattle.book.specs.Refusal.{Grounds, refusal, itemNumber, slotRefusal}
 use Rattle.book.specs.Perform.{Arrays, stored, changed}
-use Rattle.metanet.specs.Line.{Item, metered, stepped, Line, change, caseOf, stepsOf, itemSteps, signed}
+use Rattle.metanet.specs.Line.{Item, metered, stepped, Line, change, caseOf, itemSteps, signed}
 use Rattle.book.specs.Book.{Book, started, entered, groundsIn, isFilled}
-use Rattle.book.proofs.Judging.{placed}
-use Rattle.book.proofs.Sounds.{laid, live-sound}
 use Rattle.book.proofs.Rel.{Kept, Rel}
-use Rattle.book.proofs.Views.{filled-some, size-view, step-view, sound-view}
+use Rattle.book.proofs.Views.{filled-some, size-view}
 use Rattle.book.proofs.Stored.{Stored, Begun, withWord, studyWord}
-use Rattle.book.proofs.StateStores.{sign-stored, meter-stored}
+use Rattle.book.proofs.ItemStore.{item-stored}
 use Rattle.book.proofs.SlotStores.{hold-stored, recall-stored, drop-stored}
-use Rattle.book.proofs.StepStore.{step-stored}
 use Rattle.book.proofs.StartStore.{start-stored}
 use Rattle.metanet.proofs.Lines.{caseOf-snoc}
 use Rattle.metanet.proofs.LineStates.{good-sign, good-meter}
@@ -47,16 +42,6 @@ module _ {words speeds : ℕ} {a : Arrays} {b : Book} (r : Rel words speeds a b)
       → change (networkAt (a .words)) (caseAt (a .words) (a .speeds) 0) i ≡ caseOf (b .network) (b .begun) (b .live ++ (i ∷ []))
   item-case i = (λ j. change (r .network j) (r .live .is j) i) ∙ sym (caseOf-snoc (b .network) (b .begun) (b .live) i)
 
-  module _ (i : ℕ) (there : outside 1 i (b .network .head .size) ≡ false) where
-    segment-low : 1 ≤ i
-    segment-low = inside-low 1 i (b .network .head .size) there
-
-    segment-high : i ≤ sizeAt (a .words)
-    segment-high = rw (size-view r) (inside-high 1 i (b .network .head .size) there)
-
-  live-place : CaseAt (a .words) (a .speeds) (caseWord (sizeAt (a .words)) 0) (caseSpeed (sizeAt (a .words)) 0) (sizeAt (a .words))
-  live-place = placed (laid (a .words) (a .speeds) (sound-view r)) 0 (omega arith)
-
   -- a store that leaves all 16 words, as one that leaves the run count x
   runs-stay : {z : Arrays} {c : Case} (x : ℕ) → runCountAt (a .words) ≡ x → Stored a z 0 c (studyWord (a .words))
       → Stored a z 0 c (withWord (studyWord (a .words)) 0 x)
@@ -66,20 +51,6 @@ module _ {words speeds : ℕ} {a : Arrays} {b : Book} (r : Rel words speeds a b)
       same zero = e
       same (suc j) = rw (ne-eqb (suc j) 0 (λ q. omega (arith, q)))
 
-  pub item-store : (i : Item) → itemNumber i (groundsIn words speeds b) ≡ 0
-      → Stored a (changed i a) 0 (change (networkAt (a .words)) (caseAt (a .words) (a .speeds) 0) i) (withWord (studyWord (a .words)) 0 (b .runs + itemSteps i))
-  unfolding itemNumber
-  item-store (signed i limit compliance) e =
-      let there = row-passed _ _ _ e in
-      runs-stay (b .runs + 0) (omega (arith, r .runs)) (sign-stored a (fit r) i (segment-low i there) (segment-high i there) limit compliance)
-  item-store (metered i setting) e =
-      let there = row-passed _ _ _ e in
-      runs-stay (b .runs + 0) (omega (arith, r .runs)) (meter-stored a (fit r) i (segment-low i there) (segment-high i there) setting)
-  item-store (stepped ds) e =
-      let sound = live-sound (a .words) (a .speeds) (sound-view r) in
-      let q = step-view r (stepsOf (b .live)) ds ∙ first-zero-left _ _ e in
-      rw (r .runs) at (step-stored a (fit r) ds (case-ready live-place sound (stepsOf (b .live)) ds q) (case-total live-place sound))
-
   item-good : (i : Item) → itemNumber i (groundsIn words speeds b) ≡ 0 → Good (b .network) (b .begun) (b .live ++ (i ∷ []))
   unfolding itemNumber
   item-good (signed i limit compliance) e =
@@ -88,6 +59,12 @@ module _ {words speeds : ℕ} {a : Arrays} {b : Book} (r : Rel words speeds a b)
       let later = row-later _ _ _ e in
       good-meter (r .live .good) i (row-passed _ _ _ e) setting (row-passed _ _ _ later) (row-passed _ _ _ (row-later _ _ _ later))
   item-good (stepped ds) e = good-step (r .live .good) ds (first-zero-left _ _ e)
+
+  pub item-store : (i : Item) → itemNumber i (groundsIn words speeds b) ≡ 0
+      → Stored a (changed i a) 0 (change (networkAt (a .words)) (caseAt (a .words) (a .speeds) 0) i) (withWord (studyWord (a .words)) 0 (b .runs + itemSteps i))
+  item-store i e =
+      let many = ap (λ (c : Case). length (c .states)) (item-case i) ∙ item-good i e .many ∙ sym (size-view r) in
+      rw (r .runs) at (item-stored a (fit r) i many)
 
   item-runs : (i : Item) → itemNumber i (groundsIn words speeds b) ≡ 0 → b .runs + itemSteps i ≤ 1000000
   unfolding itemNumber

@@ -1,8 +1,7 @@
 -- What arrays that hold a book show: the study is sound, and every call is refused or accepted as in the book.
-use Prim.Native.Nat.{ℕ, zero, suc, _+_, _≤_, _<_}
+use Prim.Native.Nat.{ℕ, zero, suc, _+_, _≤_}
 use mathlib.Core.Path.{_≡_, refl, sym, ap, _∙_}
 use mathlib.Core.Bool.{Bool, true, false, _&&_, _||_, not, true≢false, false≢true}
-use mathlib.Core.List.{List}
 use mathlib.Core.Option.{Option, none, some}
 use native.Mathlib.Omega.{arith}
 use native.Mathlib.Nat.{le-of-eq}
@@ -13,12 +12,10 @@ use Rattle.laws.specs.First.{row}
 use Rattle.laws.proofs.First.{row-skipped, first-zero, firstOf-all}
 use Rattle.laws.proofs.Tests.{and-left, and-right}
 use Rattle.format.specs.Network.{Network, networkFrom, entryOf, segmentOf}
-use Rattle.format.specs.Words.{headIn, entryIn, segmentIn, keptNumber}
-use Rattle.format.proofs.Keeping.{kept-within}
+use Rattle.format.specs.Words.{keptNumber}
 use Rattle.metanet.specs.Case.{Case}
-use Rattle.metanet.specs.Sound.{caseNumber, stepNumber}
+use Rattle.metanet.specs.Sound.{caseNumber}
 use Rattle.metanet.specs.Words.{netOf}
-use Rattle.metanet.proofs.SameNetwork.{case-number-from, step-number-from}
 use Rattle.book.specs.Arrangement.{wordsFor, speedsFor, sizeAt, runCountAt, markAt, filledAt, caseAt}
 use Rattle.book.specs.Sound.{caseNumberAt, slotNumber, casesNumber, soundNumber, sound}
 use Rattle.book.specs.Calls.{Call, isStart}
@@ -51,31 +48,10 @@ module _ {words speeds : ℕ} {a : Arrays} {b : Book} (r : Rel words speeds a b)
   unfolding networkFrom
   size-view = ap (λ (w : Network). w .head .size) (r .network)
 
-  curve-there : (i : ℕ) → i < headIn (netOf (a .words)) .size → segmentIn (netOf (a .words)) i .curve < headIn (netOf (a .words)) .curves
-  curve-there i l = kept-within (netOf (a .words)) (r .kept) .each i l .curve-high
-
-  -- a case is judged on the words as on the network
-  case-view : (c : Case)
-      → caseNumber (headIn (netOf (a .words))) (entryIn (netOf (a .words))) (segmentIn (netOf (a .words))) c
-      ≡ caseNumber (b .network .head) (entryOf (b .network)) (segmentOf (b .network)) c
-  case-view c =
-      sym (case-number-from (headIn (netOf (a .words))) (entryIn (netOf (a .words))) (segmentIn (netOf (a .words))) curve-there c)
-      ∙ ap (λ (w : Network). caseNumber (w .head) (entryOf w) (segmentOf w) c) (r .network)
-
-  -- and so is a step
-  pub step-view : (steps : ℕ) (ds : List ℕ)
-      → stepNumber (headIn (netOf (a .words))) (entryIn (netOf (a .words))) (segmentIn (netOf (a .words))) steps ds
-      ≡ stepNumber (b .network .head) (entryOf (b .network)) (segmentOf (b .network)) steps ds
-  step-view steps ds =
-      sym (step-number-from (headIn (netOf (a .words))) (entryIn (netOf (a .words))) (segmentIn (netOf (a .words))) curve-there steps ds)
-      ∙ ap (λ (w : Network). stepNumber (w .head) (entryOf w) (segmentOf w) steps ds) (r .network)
-
   -- ---- sound
   place-view : (k : ℕ) (l : Line) → Kept a b k l → caseNumberAt (a .words) (a .speeds) k ≡ 0
   place-view k l K =
-      case-view (caseAt (a .words) (a .speeds) k)
-      ∙ ap (caseNumber (b .network .head) (entryOf (b .network)) (segmentOf (b .network))) (K .is)
-      ∙ K .good .is-sound
+      (λ j. caseNumber (r .network j .head) (entryOf (r .network j)) (segmentOf (r .network j)) (K .is j)) ∙ K .good .is-sound
 
   pub filled-view : (k : ℕ) → filledAt (a .words) k ≡ isFilled (b .slot k)
   filled-view k = go (leb 1 k && leb k 6) refl

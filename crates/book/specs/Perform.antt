@@ -1,23 +1,23 @@
 -- What each call does to the lent arrays, and what it answers. The contract of each callable function is `Performs`.
-use Prim.Native.Nat.{ℕ, zero, suc, _+_, _-_, _*_}
+use Prim.Native.Nat.{ℕ, zero, suc, _+_}
 use mathlib.Core.Path.{_≡_}
 use mathlib.Core.Bool.{_||_, not}
 use mathlib.Core.List.{List, [], _∷_, _++_}
-use lib.ListN.{length, set, drop}
+use lib.ListN.{length, set, drop, replicate}
 use lib.Ieee.{Float}
 use Rattle.laws.specs.First.{row, ifAccepted}
 use Rattle.laws.specs.Lists.{part, putPart}
-use Rattle.format.specs.Network.{Network, segmentOf}
+use Rattle.format.specs.Network.{Network}
 use Rattle.format.specs.File.{networkOf}
 use Rattle.format.specs.Words.{keptWords}
 use Rattle.metanet.specs.Case.{Case}
-use Rattle.metanet.specs.Words.{signedWords, meteredWords, caseWords, caseSpeeds, stepCaseWords, stepCaseSpeeds}
-use Rattle.book.specs.Arrangement.{runWord, markWord, marksLength, caseLength, caseWord, caseSpeed, networkAt, sizeAt, runCountAt, filledAt, caseAt, startMarks}
+use Rattle.book.specs.Arrangement.{runWord, markWord, caseLength, caseWord, caseSpeed, networkAt, sizeAt, runCountAt, filledAt, caseAt, startMarks}
 use Rattle.book.specs.Sound.{sound}
 use Rattle.book.specs.Calls.{Call, start, hold, recall, dropSlot, item, question, isStart}
 use Rattle.book.specs.Question.{Answer, figures, figuresAsked, refused, accepted}
 use Rattle.metanet.specs.Start.{startCase}
-use Rattle.metanet.specs.Line.{Item, signed, metered, stepped}
+use Rattle.metanet.specs.Words.{putCase, putCaseSpeeds}
+use Rattle.metanet.specs.Line.{Item, change, itemSteps}
 use Rattle.book.specs.Refusal.{Grounds, refusal}
 
 pub record Arrays : Type 0 where
@@ -46,30 +46,20 @@ refusalAt c a = row (not (isStart c || sound (a .words) (a .speeds))) 12 (refusa
 
 -- ---- what an accepted call stores
 
--- Start: the network; run count, marks and arrangement number; the live case. The slots' words stay as they came
-unfoldable pub startWords : Network → Case → List ℕ → List ℕ
-startWords w c words = let n = w .head .size in keptWords w ++ (startMarks ++ (caseWords n c ++ drop (caseWord n 1) words))
+-- the arrays with the case c of n segments for the live one; its free words and all else stay
+abbrev pub withLive : ℕ → Case → Arrays → Arrays
+withLive n c a = lent (putCase (caseWord n 0) n c (a .words)) (putCaseSpeeds (caseSpeed n 0) n c (a .speeds))
 
-unfoldable pub startSpeeds : Network → Case → List Float → List Float
-startSpeeds w c speeds = let n = w .head .size in caseSpeeds n c ++ drop n speeds
+-- Start: the network; run count, marks and arrangement number; zeros where the live case is put. The slots' words stay as they came
+unfoldable pub startWords : Network → List ℕ → List ℕ
+startWords w words =
+    let n = w .head .size in keptWords w ++ (startMarks ++ (replicate (caseLength n) 0 ++ drop (caseWord n 1) words))
 
--- the first word of segment i's state in the live case, i from 1
-abbrev pub stateWord : ℕ → ℕ
-stateWord i = runWord + marksLength + 16 * (i - 1)
-
--- the arrays with that state changed
-abbrev pub withStateWords : ℕ → (List ℕ → List ℕ) → Arrays → Arrays
-withStateWords i change a = lent (putPart (stateWord i) 16 (change (part (stateWord i) 16 (a .words))) (a .words)) (a .speeds)
-
+-- an item changes the live case as in the book, and a step adds 1 to the run count
 unfoldable pub changed : Item → Arrays → Arrays
-unfolding signedWords meteredWords
-changed (signed i limit compliance) a = withStateWords i (signedWords limit compliance) a
-changed (metered i setting) a = withStateWords i (meteredWords (segmentOf (networkAt (a .words)) (i - 1) .most) setting) a
-changed (stepped arrivals) a =
-    let n = sizeAt (a .words) in
-    lent
-    (set (stepCaseWords (a .words) (a .speeds) (caseWord n 0) (caseSpeed n 0) n arrivals) runWord (runCountAt (a .words) + 1))
-    (stepCaseSpeeds (a .words) (a .speeds) (caseWord n 0) (caseSpeed n 0) n arrivals)
+changed i a =
+    let z = withLive (sizeAt (a .words)) (change (networkAt (a .words)) (caseAt (a .words) (a .speeds) 0) i) a in
+    lent (set (z .words) runWord (runCountAt (a .words) + itemSteps i)) (z .speeds)
 
 -- the words and speeds of case j, copied to the place of case k
 unfoldable pub copiedWords : ℕ → ℕ → ℕ → List ℕ → List ℕ
@@ -86,11 +76,10 @@ abbrev pub marked : ℕ → ℕ → Arrays → Arrays
 marked k mark a = lent (set (a .words) (markWord k) mark) (a .speeds)
 
 unfoldable pub stored : Call → Arrays → Arrays
-unfolding startWords startSpeeds changed copiedWords copiedSpeeds
+unfolding startWords changed copiedWords copiedSpeeds
 stored (start file mvs speeds queues) a =
     let w = networkOf file in
-    let c = startCase w mvs speeds queues in
-    lent (startWords w c (a .words)) (startSpeeds w c (a .speeds))
+    withLive (w .head .size) (startCase w mvs speeds queues) (lent (startWords w (a .words)) (a .speeds))
 stored (item i) a = changed i a
 stored (hold k) a = marked k 1 (copied 0 k a)
 stored (recall k) a = copied k 0 a

@@ -7,17 +7,18 @@ use lib.Dec.{ltb, eqb}
 use lib.ListN.{length}
 use lib.Ieee.{Float}
 use Rattle.laws.specs.First.{row, first, firstOf}
+use Rattle.format.specs.Network.{entryOf, segmentOf}
 use Rattle.format.specs.Words.{keptNumber}
 use Rattle.metanet.specs.Words.{netOf}
-use Rattle.metanet.specs.Sound.{caseNumberIn}
-use Rattle.book.specs.Arrangement.{slots, caseWord, caseSpeed, wordsFor, speedsFor, arrangement, sizeAt, runCountAt, arrangementAt, markAt}
+use Rattle.metanet.specs.Sound.{caseNumber}
+use Rattle.book.specs.Arrangement.{slots, wordsFor, speedsFor, arrangement, networkAt, sizeAt, caseAt, runCountAt, arrangementAt, markAt}
 
 abbrev pub runsMost : ℕ
 runsMost = 1000000
 
 -- 12, of case k
 abbrev pub caseNumberAt : List ℕ → List Float → ℕ → ℕ
-caseNumberAt words speeds k = let n = sizeAt words in caseNumberIn words speeds (caseWord n k) (caseSpeed n k) n
+caseNumberAt words speeds k = let w = networkAt words in caseNumber (w .head) (entryOf w) (segmentOf w) (caseAt words speeds k)
 
 -- 12, of slot k: its mark is 0, or 1 with a sound case
 unfoldable pub slotNumber : List ℕ → List Float → ℕ → ℕ

@@ -14,7 +14,8 @@ use Rattle.laws.proofs.Lists.{table-ext, getD-set, getD-take-test}
 use Rattle.laws.proofs.Puts.{length-puts, drop-puts}
 use Rattle.format.specs.Words.{headIn, entryIn, segmentIn}
 use Rattle.metanet.specs.Step.{vehiclesIn, stepOn}
-use Rattle.metanet.specs.Words.{netOf, stateIn, stateAt, statesIn, caseIn, newWords, stepWords, totalsWords, leaving, stepCaseWords, stepCaseSpeeds}
+use Rattle.metanet.specs.Words.{netOf, stateIn, stateAt, statesIn, caseIn}
+use Rattle.metanet.proofs.InWords.{newWords, stepWords, totalsWords, leaving, stepCaseWords, stepCaseSpeeds}
 use Rattle.metanet.proofs.Ready.{Ready, TotalsOk, vehiclesAt}
 use Rattle.metanet.proofs.Turns.{state-is, words-each}
 use Rattle.metanet.proofs.SoundLaws.{vehicles-are, vehicles-sum}

@@ -87,12 +87,15 @@ module _ (words : List ℕ) (speeds : List Float) (at from n i : ℕ) (ys : List
   state-new =
       sym (state-take (drop place put) _) ∙ ap (λ (w : List ℕ). stateIn w (getD speeds (from + i) nan)) (part-put place 16 ys words many there)
 
-  state-other : (j : ℕ) → j < n → (j ≡ i → ⊥) → stateAt put speeds at from j ≡ stateAt words speeds at from j
-  state-other j l other = state-same put words (at + 16 * j) (at + 16 * j) _ (go (decLt j i))
+  pub words-other : (j : ℕ) → (j ≡ i → ⊥) → part (at + 16 * j) 16 put ≡ part (at + 16 * j) 16 words
+  words-other j other = go (decLt j i)
     where
       go : Dec (j < i) → part (at + 16 * j) 16 put ≡ part (at + 16 * j) 16 words
       go (yes b) = part-before state-put-same (at + 16 * j) 16 (omega (arith, state-within j i b))
       go (no b) = part-after state-put-same (at + 16 * j) 16 (omega (arith, state-within i j (omega (arith, other))))
+
+  state-other : (j : ℕ) → j < n → (j ≡ i → ⊥) → stateAt put speeds at from j ≡ stateAt words speeds at from j
+  state-other j l other = state-same put words (at + 16 * j) (at + 16 * j) _ (words-other j other)
 
   total-kept : (m : ℕ) → at + 16 * n ≤ m → getD put m 0 ≡ getD words m 0
   total-kept m l = getD-after state-put-same m 0 (omega (arith, state-within i n h))

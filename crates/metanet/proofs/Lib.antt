@@ -2,10 +2,11 @@ pub mod Balance
 pub mod CaseLaws
 pub mod CaseParts
 pub mod CaseSound
-pub mod Coded
+pub mod Put
 pub mod FlowLaws
 pub mod Formed
 pub mod Good
+pub mod InWords
 pub mod LineStates
 pub mod LineStart
 pub mod LineStep
@@ -21,3 +22,4 @@ pub mod StateWords
 pub mod Statements
 pub mod Turns
 pub mod Worked
+pub mod Written

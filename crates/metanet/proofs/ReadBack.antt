@@ -13,7 +13,8 @@ use Rattle.format.specs.Words.{headIn, entryIn, segmentIn}
 use Rattle.metanet.specs.declared.SegmentState.{SegmentState}
 use Rattle.metanet.specs.Case.{stateOf}
 use Rattle.metanet.specs.Step.{newState, stepState, stepStates, freeSpeed, onRamp, neighbours}
-use Rattle.metanet.specs.Words.{netOf, stateIn, stateAt, statesIn, steppedWords, stepStateIn, newWords, newSpeeds, stepWords, stepSpeeds}
+use Rattle.metanet.specs.Words.{netOf, stateIn, stateAt, statesIn}
+use Rattle.metanet.proofs.InWords.{steppedWords, stepStateIn, newWords, newSpeeds, stepWords, stepSpeeds}
 use Rattle.metanet.proofs.Ready.{Ready}
 use Rattle.metanet.proofs.Turns.{state-is, words-each, speeds-each, speeds-room}
 use Rattle.metanet.proofs.StateWords.{state-take, state-stepped}

@@ -17,7 +17,8 @@ use Rattle.metanet.specs.declared.SegmentState.{SegmentState}
 use Rattle.metanet.specs.Case.{alineaKind}
 use Rattle.metanet.specs.Speed.{area}
 use Rattle.metanet.specs.Step.{newState, desiredSpeed}
-use Rattle.metanet.specs.Words.{netOf, stateIn, stateAt, stepWords, stepSpeeds, leaving}
+use Rattle.metanet.specs.Words.{netOf, stateIn, stateAt}
+use Rattle.metanet.proofs.InWords.{stepWords, stepSpeeds, leaving}
 
 -- length and lanes are such that G is 1..16,000
 pub record AreaOk (s : Segment) : Type 0 where

@@ -1,6 +1,6 @@
 -- The 16 words of a state: how many they are, and what is read back of them after each call that writes them.
 use Prim.Native.Nat.{ℕ}
-use mathlib.Core.Path.{_≡_, refl}
+use mathlib.Core.Path.{_≡_}
 use mathlib.Core.Bool.{Bool}
 use mathlib.Core.List.{List}
 use lib.IntN.{ℤ}
@@ -15,7 +15,8 @@ use Rattle.metanet.specs.declared.Neighbours.{Neighbours}
 use Rattle.metanet.specs.declared.Setting.{Setting}
 use Rattle.metanet.specs.Change.{signedState, meteredState}
 use Rattle.metanet.specs.Step.{newState}
-use Rattle.metanet.specs.Words.{stateIn, stateWords, signedWords, meteredWords, steppedWords}
+use Rattle.metanet.specs.Words.{stateIn}
+use Rattle.metanet.proofs.InWords.{signedWords, meteredWords, steppedWords}
 
 -- a state stands in 16 words
 pub state-take : (w : List ℕ) (v : Float) → stateIn (part 0 16 w) v ≡ stateIn w v
@@ -23,10 +24,6 @@ unfolding stateIn
 state-take w v = simp getD-take-test
 
 -- ---- how many
-
-pub length-state : (r : SegmentState) → length (stateWords r) ≡ 16
-unfolding stateWords
-length-state r = refl
 
 pub length-signed : (limit : ℕ) (compliance : ℤ) (w : List ℕ) → length (signedWords limit compliance w) ≡ length w
 unfolding signedWords
@@ -41,10 +38,6 @@ unfolding steppedWords
 length-stepped w r = simp length-set
 
 -- ---- what is read back
-
-pub state-coded : (r : SegmentState) → stateIn (stateWords r) (r .speed) ≡ r
-unfolding stateWords stateIn
-state-coded r = refl
 
 module _ (w : List ℕ) (v : Float) (many : length w ≡ 16) where
   pub state-signed : (limit : ℕ) (compliance : ℤ) → stateIn (signedWords limit compliance w) v ≡ signedState limit compliance (stateIn w v)

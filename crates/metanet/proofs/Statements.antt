@@ -9,7 +9,8 @@ use Rattle.format.specs.Network.{Network}
 use Rattle.format.specs.Words.{networkIn}
 use Rattle.metanet.specs.Case.{Case}
 use Rattle.metanet.specs.Step.{stepCase, totalOf}
-use Rattle.metanet.specs.Words.{netOf, caseIn, stepCaseWords, stepCaseSpeeds}
+use Rattle.metanet.specs.Words.{netOf, caseIn}
+use Rattle.metanet.proofs.InWords.{stepCaseWords, stepCaseSpeeds}
 use Rattle.metanet.proofs.Ready.{Ready, TotalsOk}
 
 -- the case that the arrays hold afterwards is the step of the case that they held, on the network that they keep

@@ -18,7 +18,8 @@ use Rattle.metanet.specs.declared.SegmentState.{SegmentState}
 use Rattle.metanet.specs.Case.{stateOf}
 use Rattle.metanet.specs.Flow.{exitPart}
 use Rattle.metanet.specs.Step.{density, through, outflowNow, newState, inflow, upstream, downstream, stepState, exitNow}
-use Rattle.metanet.specs.Words.{netOf, stateIn, stateAt, statesIn, steppedWords, stepStateIn, newWords, newSpeeds, stepWords, stepSpeeds}
+use Rattle.metanet.specs.Words.{netOf, stateIn, stateAt, statesIn}
+use Rattle.metanet.proofs.InWords.{steppedWords, stepStateIn, newWords, newSpeeds, stepWords, stepSpeeds}
 use Rattle.metanet.proofs.Ready.{Ready, NewStateOk, afterIn, newStateIn}
 use Rattle.metanet.proofs.SoundLaws.{state-read}
 use Rattle.metanet.proofs.SegmentLaws.{SegmentIn, segment-ok, through-at-most-count, outflow-at-most-count, exit-le}

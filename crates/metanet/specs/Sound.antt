@@ -10,14 +10,12 @@ use Rattle.laws.specs.Real.{real}
 use Rattle.laws.specs.Sums.{sumOf}
 use Rattle.format.specs.declared.Head.{Head}
 use Rattle.format.specs.declared.Segment.{Segment}
-use Rattle.format.specs.Words.{headIn, entryIn, segmentIn}
 use Rattle.metanet.specs.declared.SignSetting.{SignSetting}
 use Rattle.metanet.specs.declared.Ramp.{Ramp}
 use Rattle.metanet.specs.declared.Flows.{Flows}
 use Rattle.metanet.specs.declared.SegmentState.{SegmentState}
 use Rattle.metanet.specs.Case.{Case, openKind, fixedKind, alineaKind, stateOf}
 use Rattle.metanet.specs.Step.{vehiclesIn, freeSpeed, onRamp}
-use Rattle.metanet.specs.Words.{netOf, statesIn, caseIn}
 
 -- every mv figure and each case's mv in all ≤ 10¹², time ≤ 10¹⁸, steps ≤ 20,000
 abbrev pub mvMost : ℕ
@@ -124,21 +122,3 @@ module _ (h : Head) (entry : ℕ → ℕ → ℕ) (segment : ℕ → Segment) wh
   stepNumber steps ds =
       row (not (eqb (length ds) (h .size))) 13
       (first (firstOf (arrivalNumber ds) (h .size)) (row (leb stepsMost steps) 16 0))
-
--- ---- the same of a case and a network in the words; net is the network's words
-
-abbrev pub stateNumberIn : List ℕ → List Float → ℕ → ℕ → ℕ → ℕ → ℕ
-stateNumberIn words speeds at from n i =
-    let net = netOf words in
-    stateNumber (headIn net) (entryIn net) (segmentIn net) (statesIn words speeds at from n) i
-
-abbrev pub caseNumberIn : List ℕ → List Float → ℕ → ℕ → ℕ → ℕ
-caseNumberIn words speeds at from n =
-    let net = netOf words in
-    caseNumber (headIn net) (entryIn net) (segmentIn net) (caseIn words speeds at from n)
-
-abbrev pub arrivalNumberIn : List ℕ → List ℕ → ℕ → ℕ
-arrivalNumberIn net ds i = arrivalNumber (headIn net) (entryIn net) (segmentIn net) ds i
-
-abbrev pub stepNumberIn : List ℕ → ℕ → List ℕ → ℕ
-stepNumberIn net steps ds = stepNumber (headIn net) (entryIn net) (segmentIn net) steps ds

@@ -1,21 +1,15 @@
--- How a case stands in the lent words and speeds (docs/ARRANGEMENT.md), and what a step makes of them.
+-- How a case stands in the lent words and speeds (docs/ARRANGEMENT.md): how it is read, and what they are when it is put in.
 -- A case's states of 16 words start at place at, its 8 words of totals follow; its speeds start at place from.
 use Prim.Native.Nat.{ℕ, _+_, _*_}
 use mathlib.Core.List.{List, [], _∷_, _++_}
-use lib.IntN.{ℤ}
-use lib.ListN.{getD, take, drop, set, replicate}
+use lib.ListN.{getD, take, drop}
 use lib.Ieee.{Float, nan}
-use Rattle.laws.specs.Lists.{table, part, parts, puts}
-use Rattle.laws.specs.Sums.{sumOf}
-use Rattle.format.specs.Words.{headIn, entryIn, segmentIn}
+use Rattle.laws.specs.Lists.{table, part, putPart, parts}
 use Rattle.metanet.specs.declared.SignSetting.{SignSetting}
 use Rattle.metanet.specs.declared.Ramp.{Ramp}
 use Rattle.metanet.specs.declared.Flows.{Flows}
 use Rattle.metanet.specs.declared.SegmentState.{SegmentState}
-use Rattle.metanet.specs.declared.Setting.{Setting}
 use Rattle.metanet.specs.Case.{Case, stateOf}
-use Rattle.metanet.specs.Change.{signFor, rampFor}
-use Rattle.metanet.specs.Step.{vehiclesIn, stepState, exitsNow}
 
 -- the words of the network
 abbrev pub netOf : List ℕ → List ℕ
@@ -38,37 +32,19 @@ unfoldable pub stateIn : List ℕ → Float → SegmentState
 unfolding signIn rampIn flowsIn
 stateIn w v = record { count = getD w 0 0; queue = getD w 1 0; sign = signIn w; ramp = rampIn w; flows = flowsIn w; speed = v }
 
--- its parts, put into the words w; a step puts R alone of the ramp
-unfoldable pub putSign : SignSetting → List ℕ → List ℕ
-putSign r w = set (set w 2 (r .limit)) 3 (r .compliance)
+-- the words of its parts
+abbrev pub signWords : SignSetting → List ℕ
+signWords r = r .limit ∷ r .compliance ∷ []
 
-unfoldable pub putRamp : Ramp → List ℕ → List ℕ
-putRamp r w =
-    set (set (set (set (set (set w 4 (r .kind)) 5 (r .rate)) 6 (r .target)) 7 (r .gain)) 8 (r .least)) 9 (r .interval)
+abbrev pub rampWords : Ramp → List ℕ
+rampWords r = r .kind ∷ r .rate ∷ r .target ∷ r .gain ∷ r .least ∷ r .interval ∷ []
 
-unfoldable pub putRate : Ramp → List ℕ → List ℕ
-putRate r w = set w 5 (r .rate)
+abbrev pub flowsWords : Flows → List ℕ
+flowsWords r = r .outflow ∷ r .release ∷ []
 
-unfoldable pub putFlows : Flows → List ℕ → List ℕ
-putFlows r w = set (set w 10 (r .outflow)) 11 (r .release)
-
--- the words of a state, the free ones 0
-unfoldable pub stateWords : SegmentState → List ℕ
-unfolding putSign putRamp putFlows
-stateWords r = putFlows (r .flows) (putRamp (r .ramp) (putSign (r .sign) (r .count ∷ r .queue ∷ replicate 14 0)))
-
--- what Sign, Meter and a step write in the words w of a state; most is the segment's Q, r the state after the step
-unfoldable pub signedWords : ℕ → ℤ → List ℕ → List ℕ
-unfolding putSign
-signedWords limit compliance w = putSign (signFor limit compliance) w
-
-unfoldable pub meteredWords : ℕ → Setting → List ℕ → List ℕ
-unfolding putRamp
-meteredWords most setting w = putRamp (rampFor most setting) w
-
-unfoldable pub steppedWords : List ℕ → SegmentState → List ℕ
-unfolding putRate putFlows
-steppedWords w r = putFlows (r .flows) (putRate (r .ramp) (set (set w 0 (r .count)) 1 (r .queue)))
+-- the words w of a state with the state r put in; the free ones stay
+unfoldable pub putState : SegmentState → List ℕ → List ℕ
+putState r w = r .count ∷ r .queue ∷ (signWords (r .sign) ++ (rampWords (r .ramp) ++ (flowsWords (r .flows) ++ drop 12 w)))
 
 -- ---- a case, read
 
@@ -91,59 +67,15 @@ caseIn words speeds at from n =
       time = getD words (at + 16 * n + 3) 0;
     }
 
--- ---- the words and speeds of a case of n segments; the free words are 0
+-- ---- a case of n segments, put into the words and speeds; the free words and all else stay
 
-unfoldable pub caseWords : ℕ → Case → List ℕ
-unfolding stateWords parts
-caseWords n c =
-    parts (λ i. stateWords (stateOf (c .states) i)) n ++ (c .steps ∷ c .arrivals ∷ c .exits ∷ c .time ∷ 0 ∷ 0 ∷ 0 ∷ 0 ∷ [])
+unfoldable pub putCase : ℕ → ℕ → Case → List ℕ → List ℕ
+unfolding putState parts
+putCase at n c words =
+    take at words
+    ++ (parts (λ i. putState (stateOf (c .states) i) (part (at + 16 * i) 16 words)) n
+    ++ (c .steps ∷ c .arrivals ∷ c .exits ∷ c .time ∷ drop (at + 16 * n + 4) words))
 
-unfoldable pub caseSpeeds : ℕ → Case → List Float
+unfoldable pub putCaseSpeeds : ℕ → ℕ → Case → List Float → List Float
 unfolding table
-caseSpeeds n c = table (λ i. stateOf (c .states) i .speed) n
-
--- ---- what a step writes: of each state what it makes anew, and its speed
-
-abbrev pub stepStateIn : List ℕ → List Float → ℕ → ℕ → ℕ → ℕ → List ℕ → ℕ → SegmentState
-stepStateIn words speeds at from n t ds i =
-    let net = netOf words in
-    stepState (headIn net) (entryIn net) (segmentIn net) (statesIn words speeds at from n) t ds i
-
-abbrev pub newWords : List ℕ → List Float → ℕ → ℕ → ℕ → ℕ → List ℕ → ℕ → List ℕ
-newWords words speeds at from n t ds i = steppedWords (part (at + 16 * i) 16 words) (stepStateIn words speeds at from n t ds i)
-
-abbrev pub newSpeeds : List ℕ → List Float → ℕ → ℕ → ℕ → ℕ → List ℕ → ℕ → List Float
-newSpeeds words speeds at from n t ds i = stepStateIn words speeds at from n t ds i .speed ∷ []
-
-abbrev pub stepWords : List ℕ → List Float → ℕ → ℕ → ℕ → ℕ → List ℕ → List ℕ
-stepWords words speeds at from n t ds = puts 16 (newWords words speeds at from n t ds) at n words
-
-abbrev pub stepSpeeds : List ℕ → List Float → ℕ → ℕ → ℕ → ℕ → List ℕ → List Float
-stepSpeeds words speeds at from n t ds = puts 1 (newSpeeds words speeds at from n t ds) from n speeds
-
--- ---- of the totals the four
-
-unfoldable pub totalsWords : List ℕ → ℕ → ℕ → ℕ → List ℕ
-totalsWords w came left time =
-    set (set (set (set w 0 (getD w 0 0 + 1)) 1 (getD w 1 0 + came)) 2 (getD w 2 0 + left)) 3 (getD w 3 0 + time)
-
--- the words with the 8 from place e on replaced
-abbrev pub putTotals : List ℕ → ℕ → List ℕ → List ℕ
-putTotals words e ys = take e words ++ (ys ++ drop 8 (drop e words))
-
--- what leaves in the step
-abbrev pub leaving : List ℕ → List Float → ℕ → ℕ → ℕ → ℕ
-leaving words speeds at from n = let net = netOf words in exitsNow (headIn net) (entryIn net) (segmentIn net) (statesIn words speeds at from n)
-
--- the words after a step of the case: its states' figures and its totals are new, all else stays
-abbrev pub stepCaseWords : List ℕ → List Float → ℕ → ℕ → ℕ → List ℕ → List ℕ
-stepCaseWords words speeds at from n ds =
-    putTotals (stepWords words speeds at from n (getD words (at + 16 * n) 0) ds) (at + 16 * n)
-    (totalsWords (part (at + 16 * n) 8 words)
-    (sumOf (λ i. getD ds i 0) n)
-    (leaving words speeds at from n)
-    (getD words 0 0 * sumOf (vehiclesIn (statesIn words speeds at from n)) n))
-
--- the speeds after it: the case's own are new, all else stays
-abbrev pub stepCaseSpeeds : List ℕ → List Float → ℕ → ℕ → ℕ → List ℕ → List Float
-stepCaseSpeeds words speeds at from n ds = stepSpeeds words speeds at from n (getD words (at + 16 * n) 0) ds
+putCaseSpeeds from n c speeds = putPart from n (table (λ i. stateOf (c .states) i .speed) n) speeds

@@ -4,7 +4,7 @@ mod totals; // totals.rt: steps, arrivals, exits, time
 
 ghost use mathlib.Core.Path.{_≡_};
 ghost use Prim.Native.Nat.{_+_, _*_};
-ghost use Rattle.metanet.specs.Words.{stepCaseWords, stepCaseSpeeds};
+ghost use Rattle.metanet.proofs.InWords.{stepCaseWords, stepCaseSpeeds};
 ghost use Rattle.metanet.proofs.Ready.{Ready, TotalsOk};
 
 // One step of the case whose states start at word at and whose speeds start at from; n is the network's number of segments. The caller

@@ -3,7 +3,7 @@ use metanet::SegmentState;
 use segment::state;
 ghost use mathlib.Core.Path.{_≡_};
 ghost use lib.ListN.{length};
-ghost use Rattle.metanet.specs.Words.{steppedWords};
+ghost use Rattle.metanet.proofs.InWords.{steppedWords};
 ghost use Rattle.metanet.proofs.Ready.{Ready, Stepped};
 
 // Stores the figures that a step makes.

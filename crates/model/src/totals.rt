@@ -3,7 +3,7 @@ ghost use mathlib.Core.Path.{_≡_};
 ghost use Prim.Native.Nat.{_+_, _*_, _<_, _≤_};
 ghost use lib.ListN.{length, getD};
 ghost use Rattle.laws.specs.Sums.{sumOf};
-ghost use Rattle.metanet.specs.Words.{totalsWords};
+ghost use Rattle.metanet.proofs.InWords.{totalsWords};
 ghost use Rattle.metanet.proofs.Ready.{TotalsOk};
 
 // The arrivals of a step, summed.

@@ -1,5 +1,5 @@
 -- Sign and Meter: a compliance with 500 added, the rows of the table after 12, and where segment i's state stands.
-use Prim.Native.Nat.{ℕ, zero, suc, _+_, _-_, _≤_}
+use Prim.Native.Nat.{ℕ, zero, suc, _+_, _-_, _*_, _≤_}
 use mathlib.Core.Path.{_≡_, refl, sym, ap, _∙_}
 use mathlib.Core.Bool.{Bool, true, false, cond, not, _&&_, _||_}
 use mathlib.Core.List.{List}
@@ -20,7 +20,7 @@ use Rattle.book.specs.Arrangement.{networkAt, sizeAt}
 use Rattle.book.specs.Sound.{sound}
 use Rattle.metanet.specs.Change.{complianceBad, complianceWord, signFor, signRefused, settingRefused}
 use Rattle.book.specs.Refusal.{refusal, itemNumber}
-use Rattle.book.specs.Perform.{refusalAt, stateWord, lent}
+use Rattle.book.specs.Perform.{refusalAt, lent}
 use Rattle.book.proofs.Judging.{size-high}
 use Rattle.book.proofs.Sounds.{laid}
 use Rattle.book.proofs.Performing.{judged, accepted-sound}
@@ -53,6 +53,10 @@ shown-sign zero z some = absurd (some refl)
 shown-sign (suc limit) z some = refl
 
 -- ---- segment i's state in the live case, i from 1
+
+-- its first word
+abbrev pub stateWord : ℕ → ℕ
+stateWord i = 2576 + 16 * (i - 1)
 
 pub record StateWithin (words : List ℕ) (i : ℕ) : Type 0 where
   pub low : 1 ≤ i

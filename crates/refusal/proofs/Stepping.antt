@@ -6,24 +6,25 @@ use mathlib.Core.List.{List}
 use native.Mathlib.Omega.{arith}
 use native.Mathlib.Nat.{zero-mul}
 use lib.Dec.{leb}
-use lib.ListN.{length, getD, set}
+use lib.ListN.{length, getD}
 use lib.Ieee.{Float}
 use borrow.Author.Tests.{le-leb, lt-leb, leb-false}
 use Rattle.laws.specs.First.{row, first}
 use Rattle.laws.proofs.First.{row-applies, row-skipped, row-passed, first-some, first-zero, first-zero-left, first-zero-right}
 use Rattle.format.specs.Network.{entryOf, segmentOf}
 use Rattle.format.specs.Words.{headIn, entryIn, segmentIn}
-use Rattle.metanet.specs.Words.{netOf, caseIn, stepCaseWords, stepCaseSpeeds}
+use Rattle.metanet.specs.Words.{netOf, caseIn}
+use Rattle.metanet.proofs.InWords.{stepNumberIn, caseNumberIn}
 use Rattle.metanet.proofs.Ready.{Ready, CaseAt, TotalsOk}
-use Rattle.metanet.specs.Sound.{stepNumber, stepNumberIn}
+use Rattle.metanet.specs.Sound.{stepNumber}
 use Rattle.metanet.proofs.SoundLaws.{case-ready, case-total}
 use Rattle.metanet.proofs.SameNetwork.{step-number-from}
 use Rattle.book.specs.Arrangement.{caseWord, caseSpeed, networkAt, sizeAt, runCountAt, caseAt}
 use Rattle.book.specs.Sound.{sound}
 use Rattle.book.specs.Refusal.{refusal, itemNumber}
-use Rattle.book.specs.Perform.{lent, refusalAt, stored, changed}
+use Rattle.book.specs.Perform.{lent, refusalAt}
 use Rattle.book.proofs.Network.{size-word}
-use Rattle.book.proofs.Judging.{placed}
+use Rattle.book.proofs.Judging.{placed, case-judged}
 use Rattle.book.proofs.Sounds.{laid, live-sound}
 use Rattle.book.proofs.Performing.{judged}
 use Rattle.book.specs.Calls.{item}
@@ -76,8 +77,14 @@ module _ (words : List ℕ) (speeds : List Float) (ds : List ℕ) where
       live-case : CaseAt words speeds (caseWord (sizeAt words) 0) (caseSpeed (sizeAt words) 0) (sizeAt words)
       live-case = placed (laid words speeds s) 0 (omega arith)
 
-      ready : Ready words speeds ds (caseWord (sizeAt words) 0) (caseSpeed (sizeAt words) 0) (sizeAt words)
-      ready = case-ready live-case (live-sound words speeds s) stepsWord ds (first-zero-left _ _ both)
+      live-in : caseNumberIn words speeds (caseWord (sizeAt words) 0) (caseSpeed (sizeAt words) 0) (sizeAt words) ≡ 0
+      live-in = case-judged (laid words speeds s) 0 ∙ live-sound words speeds s
+
+      pub ready : Ready words speeds ds (caseWord (sizeAt words) 0) (caseSpeed (sizeAt words) 0) (sizeAt words)
+      ready = case-ready live-case live-in stepsWord ds (first-zero-left _ _ both)
+
+      pub totals-ready : TotalsOk words (caseWord (sizeAt words) 0 + 16 * sizeAt words)
+      totals-ready = case-total live-case live-in
 
       -- as the code reads n and names the live case's places
       pub step-ready : Ready words speeds ds 2576 0 (getD words 1 0)
@@ -89,20 +96,7 @@ module _ (words : List ℕ) (speeds : List Float) (ds : List ℕ) where
       pub step-totals : TotalsOk words (2576 + 16 * getD words 1 0)
       step-totals =
           subst (λ (m : ℕ). TotalsOk words (2576 + 16 * m)) (size-word words)
-          (subst (λ (p : ℕ). TotalsOk words (p + 16 * sizeAt words)) (live-word (sizeAt words)) (case-total live-case (live-sound words speeds s)))
+          (subst (λ (p : ℕ). TotalsOk words (p + 16 * sizeAt words)) (live-word (sizeAt words)) totals-ready)
 
       pub step-long : 2576 + 7 * (16 * getD words 1 0 + 8) ≤ length words
       step-long = omega (arith, laid words speeds s .room, size-word words)
-
-  -- ---- what is stored, by those places
-  pub step-words : stored (item (stepped ds)) (lent words speeds) .words ≡ set (stepCaseWords words speeds 2576 0 (getD words 1 0) ds) 2560 (runCountAt words + 1)
-  unfolding stored changed
-  step-words =
-      (λ j. set (stepCaseWords words speeds (live-word (sizeAt words) j) (zero-mul (sizeAt words) j) (sizeAt words) ds) 2560 (runCountAt words + 1))
-      ∙ ap (λ (n : ℕ). set (stepCaseWords words speeds 2576 0 n ds) 2560 (runCountAt words + 1)) (size-word words)
-
-  pub step-speeds : stored (item (stepped ds)) (lent words speeds) .speeds ≡ stepCaseSpeeds words speeds 2576 0 (getD words 1 0) ds
-  unfolding stored changed
-  step-speeds =
-      (λ j. stepCaseSpeeds words speeds (live-word (sizeAt words) j) (zero-mul (sizeAt words) j) (sizeAt words) ds)
-      ∙ ap (λ (n : ℕ). stepCaseSpeeds words speeds 2576 0 n ds) (size-word words)

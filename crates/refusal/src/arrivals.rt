@@ -4,7 +4,7 @@ ghost use Prim.Native.Nat.{_<_, _≤_};
 ghost use lib.ListN.{length};
 ghost use Rattle.laws.specs.First.{firstOf};
 ghost use Rattle.format.specs.Words.{headIn};
-ghost use Rattle.metanet.specs.Sound.{arrivalNumberIn, stepNumberIn};
+ghost use Rattle.metanet.proofs.InWords.{arrivalNumberIn, stepNumberIn};
 
 // 15, of the arrivals at segment i.
 fn arrival_number(net: &[u64], arrivals: &[u32], i: usize) -> u64

@@ -20,7 +20,7 @@ use Rattle.metanet.specs.declared.SegmentState.{SegmentState}
 use Rattle.metanet.specs.Case.{stateOf}
 use Rattle.metanet.specs.Words.{netOf, stateIn, stateAt, statesIn, caseIn}
 use Rattle.metanet.proofs.Ready.{StateOk, CaseAt}
-use Rattle.metanet.specs.Sound.{caseNumberIn}
+use Rattle.metanet.proofs.InWords.{caseNumberIn}
 use Rattle.metanet.proofs.SegmentLaws.{segment-ok, truncating-speed}
 use Rattle.metanet.proofs.SoundLaws.{state-read, case-state}
 use Rattle.book.specs.declared.CaseReport.the-variants as caseReport
@@ -31,7 +31,7 @@ use Rattle.metanet.specs.Report.{caseFigures, segmentFigures}
 use Rattle.case_words.specs.Sums.{figureAt, Summable}
 use Rattle.reports.specs.Figures.{figuresAt, stateFigures, Showable}
 use Rattle.refusal.specs.Ready.{Reportable}
-use Rattle.book.proofs.Judging.{placed, size-high}
+use Rattle.book.proofs.Judging.{placed, size-high, case-judged}
 use Rattle.book.proofs.Sounds.{laid}
 use Rattle.book.proofs.Network.{head-kept, segment-kept}
 use Rattle.book.specs.Question.{caseSays, segmentSays, figures, Answer}
@@ -68,7 +68,7 @@ module _ {words : List ℕ} {speeds : List Float} {n k : ℕ} (p : Reportable wo
   place = placed (p .laid) k (p .high)
 
   zeroed : caseNumberIn words speeds at from n ≡ 0
-  zeroed = ap (λ (m : ℕ). caseNumberIn words speeds (caseWord m k) (caseSpeed m k) m) (p .laid .size) ∙ p .sound
+  zeroed = case-judged (p .laid) k ∙ p .sound
 
   state-of : (i : ℕ) → i < n → StateOk (segmentIn (netOf words) i) (entryIn (netOf words) (segmentIn (netOf words) i .curve) 0) (stateAt words speeds at from i)
   state-of = case-state place zeroed

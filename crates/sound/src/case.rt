@@ -8,7 +8,8 @@ ghost use mathlib.Core.Path.{_≡_};
 ghost use Prim.Native.Nat.{_<_, _≤_};
 ghost use Rattle.laws.specs.First.{firstOf};
 ghost use Rattle.metanet.proofs.Ready.{CaseAt};
-ghost use Rattle.metanet.specs.Sound.{signBad, hasAlinea, openBad, fixedBad, alineaBad, settingBad, flowsBad, speedBad, stateBad, totalsBad, stateNumberIn, caseNumberIn};
+ghost use Rattle.metanet.specs.Sound.{signBad, hasAlinea, openBad, fixedBad, alineaBad, settingBad, flowsBad, speedBad, stateBad, totalsBad};
+ghost use Rattle.metanet.proofs.InWords.{stateNumberIn, caseNumberIn};
 
 fn sign_bad(r: SignSetting) -> bool
     ensures { λ x. ⌜ x ≡ signBad r ⌝ }

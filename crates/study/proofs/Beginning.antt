@@ -2,8 +2,9 @@
 use Prim.Native.Nat.{ℕ, _+_, _*_, _≤_, _<_}
 use mathlib.Core.Path.{_≡_, refl, sym, ap, _∙_}
 use mathlib.Core.List.{List, _++_, append-assoc, append-nil}
+use native.Mathlib.Nat.{zero-mul, zero-add}
 use native.Mathlib.Omega.{arith}
-use lib.ListN.{length, getD, drop, replicate, length-append, length-take, drop-of-length-le}
+use lib.ListN.{length, getD, take, drop, replicate, length-append, length-take, drop-of-length-le}
 use lib.Ieee.{Float}
 use Rattle.laws.specs.Lists.{table, part, putPart, parts, puts}
 use Rattle.laws.specs.Real.{real}
@@ -17,11 +18,13 @@ use Rattle.format.proofs.File.{network-within}
 use Rattle.format.proofs.Kept.{length-kept}
 use Rattle.metanet.specs.declared.SegmentState.{SegmentState}
 use Rattle.metanet.specs.Case.{Case, noState, stateOf}
-use Rattle.metanet.specs.Words.{stateWords, caseWords, caseSpeeds}
+use Rattle.metanet.proofs.InWords.{stateWords}
+use Rattle.metanet.specs.Words.{putCase, putCaseSpeeds}
+use Rattle.metanet.proofs.Written.{case-begun}
 use Rattle.book.specs.Arrangement.{caseWord, startMarks}
 use Rattle.book.specs.Calls.{start}
 use Rattle.metanet.specs.Start.{startState, startCase}
-use Rattle.book.specs.Perform.{lent, startWords, startSpeeds, stored}
+use Rattle.book.specs.Perform.{lent, startWords, stored}
 use Rattle.study.specs.Ready.{openWords, openWordsOn, beginWords}
 use Rattle.refusal.proofs.Starting.{same-segment}
 
@@ -89,16 +92,20 @@ module _ (b mvs speeds queues : List ℕ) (z : fileNumber b ≡ 0) where
       made = unfold stateWords startState openWords in refl
 
   pub start-words : (words : List ℕ) (initial : List Float) → stored (start b mvs speeds queues) (lent words initial) .words ≡ beginWords b mvs queues n words
-  unfolding stored startWords caseWords beginWords startCase networkFrom
+  unfolding stored startWords beginWords startCase networkFrom
   start-words words initial =
-      sym (append-assoc (keptWords (networkOf b)) startMarks _)
-      ∙ (λ j. (keptWords (networkOf b) ++ startMarks) ++ (append-assoc (parts (λ i. stateWords (stateOf (c .states) i)) n) (replicate 8 0) (drop (caseWord n 1) words)) j)
-      ∙ (λ j. (keptWords (networkOf b) ++ startMarks) ++ (parts-ext _ _ n open-state j ++ (replicate 8 0 ++ drop (place j) words)))
+      ap (putCase (caseWord n 0) n c) (sym (append-assoc (keptWords (networkOf b)) startMarks _))
+      ∙ case-begun c n front (drop (caseWord n 1) words) (caseWord n 0) (length-front b mvs queues words z ∙ omega arith)
+      ∙ (λ j. front ++ (parts-ext _ _ n open-state j ++ (replicate 8 0 ++ drop (place j) words)))
     where
+      front : List ℕ
+      front = keptWords (networkOf b) ++ startMarks
+
       place : caseWord n 1 ≡ 2584 + 16 * n
       place = omega arith
 
   pub start-speeds : (words : List ℕ) (initial : List Float) → stored (start b mvs speeds queues) (lent words initial) .speeds ≡ table (λ i. real (getD speeds i 0)) n ++ drop n initial
-  unfolding stored startSpeeds caseSpeeds networkFrom
+  unfolding stored putCaseSpeeds networkFrom
   start-speeds words initial =
-      ap (λ (l : List Float). l ++ drop n initial) (table-ext (λ i. stateOf (c .states) i .speed) (λ i. real (getD speeds i 0)) n (λ i l. ap (λ (r : SegmentState). r .speed) (state-is i l) ∙ (unfold startState in refl)))
+      ap (λ (m : ℕ). take m initial ++ (table (λ i. stateOf (c .states) i .speed) n ++ drop (m + n) initial)) (zero-mul n)
+      ∙ (λ j. table-ext (λ i. stateOf (c .states) i .speed) (λ i. real (getD speeds i 0)) n (λ i l. ap (λ (r : SegmentState). r .speed) (state-is i l) ∙ (unfold startState in refl)) j ++ drop (zero-add n j) initial)

@@ -7,7 +7,7 @@ use Rattle.laws.specs.Lists.{parts}
 use Rattle.format.specs.File.{segmentOn, networkOf}
 use Rattle.format.specs.Words.{keptWords}
 use Rattle.metanet.specs.Case.{openState}
-use Rattle.metanet.specs.Words.{stateWords}
+use Rattle.metanet.proofs.InWords.{stateWords}
 use Rattle.book.specs.Arrangement.{startMarks}
 
 -- ---- what Start writes, part by part

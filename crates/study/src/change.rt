@@ -7,7 +7,7 @@ ghost use mathlib.Core.Bool.{false};
 ghost use lib.ListN.{length};
 ghost use Rattle.metanet.specs.Change.{complianceBad, complianceWord, signFor, rampFor};
 ghost use Rattle.metanet.specs.Case.{plainRamp};
-ghost use Rattle.metanet.specs.Words.{signedWords, meteredWords};
+ghost use Rattle.metanet.proofs.InWords.{signedWords, meteredWords};
 
 // A compliance of −500..500 with 500 added.
 fn compliance_word(compliance: i64) -> u64

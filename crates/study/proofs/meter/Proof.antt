@@ -7,11 +7,12 @@ use Rattle.laws.proofs.Puts.{part-changed}
 use Rattle.format.specs.Network.{segmentOf}
 use Rattle.book.specs.Arrangement.{networkAt}
 use Rattle.book.specs.Calls.{item}
-use Rattle.book.specs.Perform.{refusalAt, stateWord, answerOf, lent, changed, stored}
-use Rattle.metanet.specs.Words.{meteredWords}
+use Rattle.book.specs.Perform.{refusalAt, answerOf, lent}
+use Rattle.metanet.proofs.InWords.{meteredWords}
 use Rattle.metanet.specs.Line.{metered}
 use Rattle.book.proofs.Performing.{refuses, accepts}
-use Rattle.refusal.proofs.Settings.{StateWithin, meter-within}
+use Rattle.refusal.proofs.Settings.{stateWord, StateWithin, meter-within}
+use Rattle.study.proofs.Changing.{meter-stored, meter-speeds-stay}
 use Rattle.study.proofs.meter.Statement.{statement}
 use Rattle.study.proofs.meter.Tie as tie
 
@@ -32,15 +33,16 @@ returns : tie.Need-returns
 returns c = refuses _ _ _ (c .before .meter-number .ensures) (c .if1 .taken)
 
 returns-2 : tie.Need-returns-2
-unfolding stored changed answerOf
+unfolding answerOf
 returns-2 c =
     let e = c .before .before .before .before in
     let a = start (state-at e) .args in
     let at = stateWord (a .i) in
     let q = segmentOf (networkAt (a .words .now)) (a .i - 1) .most in
     accepts _ _ _ (accepted (state-at e)) refl
-    (part-changed (a .words .now) _ (meteredWords q (a .setting)) at 16 _ (span at 16) (rw (e .segment-at .ensures) at (c .before .before .put-setting .ensures)))
-    refl
+    (part-changed (a .words .now) _ (meteredWords q (a .setting)) at 16 _ (span at 16) (rw (e .segment-at .ensures) at (c .before .before .put-setting .ensures))
+    ∙ sym (meter-stored _ _ _ _ (accepted (state-at e))))
+    (sym (meter-speeds-stay _ _ _ _ (accepted (state-at e))))
 
 pub meter-spec : {M : Type 1} → statement M
 meter-spec =

@@ -9,10 +9,11 @@ use Rattle.laws.proofs.Puts.{part-changed}
 use Rattle.metanet.specs.Line.{signed}
 use Rattle.book.specs.Calls.{item}
 use Rattle.metanet.specs.Change.{complianceBad}
-use Rattle.book.specs.Perform.{refusalAt, stateWord, answerOf, lent, changed, stored}
-use Rattle.metanet.specs.Words.{signedWords}
+use Rattle.book.specs.Perform.{refusalAt, answerOf, lent}
+use Rattle.metanet.proofs.InWords.{signedWords}
 use Rattle.book.proofs.Performing.{refuses, accepts}
-use Rattle.refusal.proofs.Settings.{StateWithin, sign-within, sign-compliance}
+use Rattle.refusal.proofs.Settings.{stateWord, StateWithin, sign-within, sign-compliance}
+use Rattle.study.proofs.Changing.{sign-stored, sign-speeds-stay}
 use Rattle.study.proofs.sign.Statement.{statement}
 use Rattle.study.proofs.sign.Tie as tie
 
@@ -46,15 +47,16 @@ put-sign-requires c κs =
     (rw (span at 16) (length-part w at 16 (within d .room)), ap complianceBad (read s) ∙ sign-compliance _ _ _ _ _ (accepted d))
 
 returns-2 : tie.Need-returns-2
-unfolding stored changed answerOf
+unfolding answerOf
 returns-2 c =
     let d = c .before .before .before .before in
     let s = start (d .before) in
     let a = s .args in
     let at = stateWord (a .i) in
     accepts _ _ _ (accepted d) refl
-    (part-changed (a .words .now) _ (signedWords (a .limit) (a .compliance)) at 16 _ (span at 16) (rw (read s) at (c .before .before .put-sign .ensures)))
-    refl
+    (part-changed (a .words .now) _ (signedWords (a .limit) (a .compliance)) at 16 _ (span at 16) (rw (read s) at (c .before .before .put-sign .ensures))
+    ∙ sym (sign-stored _ _ _ _ _ (accepted d)))
+    (sym (sign-speeds-stay _ _ _ _ _ (accepted d)))
 
 pub sign-spec : {M : Type 1} → statement M
 sign-spec =

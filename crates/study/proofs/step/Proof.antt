@@ -11,7 +11,8 @@ use Rattle.book.specs.Calls.{item}
 use Rattle.book.specs.Sound.{sound}
 use Rattle.book.specs.Perform.{lent, refusalAt, answerOf}
 use Rattle.book.proofs.Performing.{refuses, accepts, accepted-sound}
-use Rattle.refusal.proofs.Stepping.{runs-left, step-ready, step-totals, step-long, step-words, step-speeds}
+use Rattle.refusal.proofs.Stepping.{runs-left, step-ready, step-totals, step-long}
+use Rattle.study.proofs.Changing.{step-stored, step-speeds-stored}
 use Rattle.study.proofs.step.Statement.{statement}
 use Rattle.study.proofs.step.Tie as tie
 
@@ -34,8 +35,8 @@ returns-2 c =
     let d = made .before .before .before .before .before in
     let w : List ℕ = start d .args .words .now in
     accepts (item (stepped _)) _ _ (taken d) refl
-    (ap (λ (l : List ℕ). set l 2560 (getD w 2560 0 + 1)) (made .step .ensures .0) ∙ sym (step-words _ _ _))
-    (made .step .ensures .1 ∙ sym (step-speeds _ _ _))
+    (ap (λ (l : List ℕ). set l 2560 (getD w 2560 0 + 1)) (made .step .ensures .0) ∙ sym (step-stored _ _ _ (is-sound d) (taken d)))
+    (made .step .ensures .1 ∙ sym (step-speeds-stored _ _ _ (is-sound d) (taken d)))
 
 pub step-spec : {M : Type 1} → statement M
 step-spec =

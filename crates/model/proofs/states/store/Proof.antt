@@ -2,7 +2,7 @@ use mathlib.Core.Path.{refl}
 use native.Mathlib.Omega.{arith}
 use lib.ListN.{length-set}
 use borrow.Author.Needs.{needs}
-use Rattle.metanet.specs.Words.{steppedWords}
+use Rattle.metanet.proofs.InWords.{steppedWords}
 use Rattle.model.proofs.states.store.Statement.{statement}
 use Rattle.model.proofs.states.store.Tie as tie
 

@@ -1,6 +1,6 @@
 use mathlib.Core.Path.{refl}
 use borrow.Author.Needs.{needs}
-use Rattle.metanet.specs.Words.{totalsWords}
+use Rattle.metanet.proofs.InWords.{totalsWords}
 use Rattle.model.proofs.totals.add_totals.Statement.{statement}
 use Rattle.model.proofs.totals.add_totals.Tie as tie
 

@@ -8,7 +8,7 @@ use lib.Seq.{length-take-le}
 use borrow.Author.Needs.{needs}
 use borrow.Author.Tests.{not-true, not-false}
 use Rattle.metanet.specs.Words.{netOf}
-use Rattle.metanet.specs.Sound.{stepNumberIn}
+use Rattle.metanet.proofs.InWords.{stepNumberIn}
 use Rattle.metanet.specs.Line.{stepped}
 use Rattle.book.specs.Calls.{item}
 use Rattle.book.specs.Sound.{sound}

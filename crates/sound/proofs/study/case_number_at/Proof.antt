@@ -1,11 +1,9 @@
-use Prim.Native.Nat.{ℕ, _+_, _*_, _≤_}
-use mathlib.Core.Path.{ap, _∙_}
+use Prim.Native.Nat.{_+_, _*_, _≤_}
+use mathlib.Core.Path.{_∙_}
 use native.Mathlib.Nat.{mul-le-mul}
 use native.Mathlib.Omega.{arith}
 use borrow.Author.Needs.{needs}
-use Rattle.metanet.specs.Sound.{caseNumberIn}
-use Rattle.book.specs.Arrangement.{caseWord, caseSpeed}
-use Rattle.book.proofs.Judging.{size-high, placed}
+use Rattle.book.proofs.Judging.{size-high, placed, case-judged}
 use Rattle.sound.proofs.study.case_number_at.Statement.{statement}
 use Rattle.sound.proofs.study.case_number_at.Tie as tie
 
@@ -17,11 +15,7 @@ speed : (s : tie.Start) → s .args .k * s .args .n ≤ 6 * 40
 speed s = mul-le-mul (s .pre .1) (size-high (s .pre .0))
 
 returns : tie.Need-returns
-returns c =
-    let s = c .before .before .before in
-    let a = s .args in
-    c .case-number .ensures
-    ∙ ap (λ (m : ℕ). caseNumberIn (a .words .now) (a .speeds .now) (caseWord m (a .k)) (caseSpeed m (a .k)) m) (s .pre .0 .size)
+returns c = let s = c .before .before .before in c .case-number .ensures ∙ case-judged (s .pre .0) (s .args .k)
 
 pub case-number-at-spec : {M : Type 1} → statement M
 case-number-at-spec =

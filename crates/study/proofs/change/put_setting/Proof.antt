@@ -4,7 +4,7 @@ use lib.ListN.{length-set}
 use denote.Ref.{now}
 use borrow.Author.Needs.{needs}
 use Rattle.metanet.specs.declared.Ramp.{Ramp}
-use Rattle.metanet.specs.Words.{putRamp, meteredWords}
+use Rattle.metanet.proofs.InWords.{putRamp, meteredWords}
 use Rattle.study.proofs.change.put_setting.Statement.{statement}
 use Rattle.study.proofs.change.put_setting.Tie as tie
 

@@ -6,7 +6,7 @@ use denote.Ref.{now}
 use borrow.Author.Needs.{needs}
 use Rattle.metanet.specs.declared.SignSetting.{SignSetting}
 use Rattle.metanet.specs.Change.{signFor}
-use Rattle.metanet.specs.Words.{putSign, signedWords}
+use Rattle.metanet.proofs.InWords.{putSign, signedWords}
 use Rattle.study.proofs.change.put_sign.Statement.{statement}
 use Rattle.study.proofs.change.put_sign.Tie as tie
 

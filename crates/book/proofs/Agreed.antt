@@ -16,7 +16,7 @@ use Rattle.metanet.specs.Line.{Line, caseOf}
 use Rattle.book.specs.Arrangement.{networkAt, filledAt, caseAt}
 use Rattle.book.specs.Sound.{sound}
 use Rattle.book.specs.Question.{CaseQuestion, ofCase, questionNumber, figuresFor, figuresAsked, Answer, refused, figures}
-use Rattle.book.specs.Calls.{Call, start, item, hold, recall, dropSlot, question, isStart, isDrop, noStart, noDrop}
+use Rattle.book.specs.Calls.{Call, start, item, hold, recall, dropSlot, question, isStart, isDrop, noCall}
 use Rattle.book.specs.Refusal.{questionRefusal, refusal}
 use Rattle.book.specs.Perform.{Arrays, Outcome, unless, refusalAt, answerOf, perform, after, taken}
 use Rattle.book.specs.Book.{Book, isFilled, started, entered, groundsIn, enter}
@@ -30,7 +30,7 @@ use Rattle.book.proofs.Demand3.{list-rel, begin-rel}
 
 -- none of the calls is a Start or a drop of slot k
 abbrev Leave : ℕ → List Call → Type 0
-Leave k cs = (noStart cs ≡ true) × (noDrop k cs ≡ true)
+Leave k cs = (noCall isStart cs ≡ true) × (noCall (isDrop k) cs ≡ true)
 
 module _ (words speeds : ℕ) where
   record Keeps (k : ℕ) (l : Line) (o b : Book) : Type 0 where
@@ -69,7 +69,7 @@ module _ (words speeds : ℕ) where
     -- a call and those accepted after it
     call-keeps : (b : Book) (c : Call) (later : List Call) → Leave k (ifAccepted (refusal c (groundsIn words speeds b)) (c ∷ later) later) → Keeps k l o b
         → Keeps k l o (enter words speeds c b .state) × Leave k later
-    unfolding enter unless ifAccepted noStart noDrop
+    unfolding enter unless ifAccepted noCall
     call-keeps b c later f K = go (refusal c (groundsIn words speeds b)) refl f
       where
         go : (m : ℕ) → refusal c (groundsIn words speeds b) ≡ m → Leave k (ifAccepted m (c ∷ later) later)
@@ -77,8 +77,8 @@ module _ (words speeds : ℕ) where
         go zero e f =
             let starts = not (isStart c) in
             let drops = not (isDrop k c) in (
-              entered-keeps b c e (and-left starts (noStart later) (f .0)) (and-left drops (noDrop k later) (f .1)) K,
-              (and-right starts (noStart later) (f .0), and-right drops (noDrop k later) (f .1)),
+              entered-keeps b c e (and-left starts (noCall isStart later) (f .0)) (and-left drops (noCall (isDrop k) later) (f .1)) K,
+              (and-right starts (noCall isStart later) (f .0), and-right drops (noCall (isDrop k) later) (f .1)),
             )
         go (suc m) e f = (K, f)
 

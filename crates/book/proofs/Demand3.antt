@@ -1,17 +1,17 @@
 -- Demand 3, of every list of calls that begins with an accepted Start, on arrays of any content.
 use Prim.Native.Nat.{ℕ, _≤_}
 use mathlib.Core.Path.{_≡_, refl, sym, _∙_}
-use mathlib.Core.Bool.{Bool, true, _&&_}
+use mathlib.Core.Bool.{Bool, true, _&&_, not}
 use mathlib.Core.List.{List, [], _∷_, _++_, append-nil}
-use lib.Dec.{leb}
+use lib.Dec.{ltb}
+use borrow.Author.Tests.{ltb-false, not-true}
 use lib.ListN.{length}
-use borrow.Author.Tests.{leb-true}
 use Rattle.laws.proofs.Tests.{and-left, and-right}
 use Rattle.laws.specs.First.{row, ifAccepted}
 use Rattle.format.specs.File.{networkOf}
 use Rattle.metanet.specs.Step.{totalOf}
 use Rattle.book.specs.Arrangement.{caseAt}
-use Rattle.book.specs.Calls.{Call, start, sizesWithin}
+use Rattle.book.specs.Calls.{Call, start, bringsOver, noCall}
 use Rattle.book.specs.Question.{accepted}
 use Rattle.metanet.specs.Start.{startCase, handed}
 use Rattle.book.specs.Refusal.{refusal}
@@ -81,14 +81,14 @@ module _ (file mvs initial queues : List ℕ) (a : Arrays) (e : refusalAt (start
   unfolding taken ifAccepted
   begin-taken cs = rw e
 
-  begin-past : (cs : List Call) (m : ℕ) → sizesWithin m (taken (begin ∷ cs) a) ≡ true → Past m (after perform (begin ∷ cs) a) a
-  unfolding sizesWithin after
+  begin-past : (cs : List Call) (m : ℕ) → noCall (bringsOver m) (taken (begin ∷ cs) a) ≡ true → Past m (after perform (begin ∷ cs) a) a
+  unfolding noCall after
   begin-past cs m h =
       let z : Arrays = perform begin a .state in
-      let t : Bool = leb (networkOf file .head .size) m in
-      let more : Bool = sizesWithin m (taken cs z) in
+      let t : Bool = not (ltb m (networkOf file .head .size)) in
+      let more : Bool = noCall (bringsOver m) (taken cs z) in
       let both : (t && more) ≡ true = rw (begin-taken cs) at h in
-      let n : networkOf file .head .size ≤ m = leb-true _ _ (and-left t more both) in
+      let n : networkOf file .head .size ≤ m = ltb-false _ _ (not-true (ltb m (networkOf file .head .size)) (and-left t more both)) in
       past-trans (list-past m (length (a .words)) (length (a .speeds)) cs z fresh begin-rel n (and-right t more both))
       (rw begin-state (begun-past (start-store file mvs initial queues a (groundsAt a) refl refl no-refusal) n))
 
@@ -142,8 +142,6 @@ demand-3 file mvs initial queues cs a b e =
       marks = filled-view r;
       runs = r .runs;
       since = s;
-      filled-since = λ k. filled-view r k ∙ s .filled k;
-      runs-since = r .runs ∙ s .runs;
       live-balance = balance s 0 _ (r .live);
       held-balance = λ k l h. balance s k l (r .slots k l h);
       is-sound = sound-view r;

@@ -8,7 +8,7 @@ use native.Mathlib.Omega.{arith}
 use lib.Dec.{eqb}
 use Rattle.laws.proofs.Tests.{and-left, and-right}
 use Rattle.format.specs.File.{networkOf}
-use Rattle.book.specs.Calls.{Call, start, hold, recall, dropSlot, isStart, isHold, isDrop, noStart, stepsIn, noDrop, heldIn, stepsBy, item, question}
+use Rattle.book.specs.Calls.{Call, start, hold, recall, dropSlot, isStart, isHold, isDrop, stepsIn, heldIn, stepsBy, item, question, noCall}
 use Rattle.metanet.specs.Start.{startCase}
 use Rattle.book.specs.Refusal.{refusal}
 use Rattle.book.specs.Perform.{Outcome, unless, answerOf}
@@ -19,24 +19,24 @@ use Rattle.laws.specs.First.{ifAccepted}
 
 -- ---- a list of calls with one more
 
-pub noStart-snoc : (es : List Call) (e : Call) → noStart es ≡ true → isStart e ≡ false → noStart (es ++ (e ∷ [])) ≡ true
-unfolding noStart
+pub noStart-snoc : (es : List Call) (e : Call) → noCall isStart es ≡ true → isStart e ≡ false → noCall isStart (es ++ (e ∷ [])) ≡ true
+unfolding noCall
 noStart-snoc [] e h f = rw f
 noStart-snoc (x ∷ es) e h f =
-    rw (and-left (not (isStart x)) (noStart es) h) (noStart-snoc es e (and-right (not (isStart x)) (noStart es) h) f)
+    rw (and-left (not (isStart x)) (noCall isStart es) h) (noStart-snoc es e (and-right (not (isStart x)) (noCall isStart es) h) f)
 
 pub stepsIn-snoc : (es : List Call) (e : Call) → stepsIn (es ++ (e ∷ [])) ≡ stepsIn es + stepsBy e
 unfolding stepsIn
 stepsIn-snoc [] e = omega arith
 stepsIn-snoc (x ∷ es) e = omega (arith, stepsIn-snoc es e)
 
-pub noDrop-snoc : (k : ℕ) (es : List Call) (e : Call) → noDrop k (es ++ (e ∷ [])) ≡ (noDrop k es && not (isDrop k e))
-unfolding noDrop
+pub noDrop-snoc : (k : ℕ) (es : List Call) (e : Call) → noCall (isDrop k) (es ++ (e ∷ [])) ≡ (noCall (isDrop k) es && not (isDrop k e))
+unfolding noCall
 noDrop-snoc k [] e = and-true (not (isDrop k e))
 noDrop-snoc k (x ∷ es) e = go (not (isDrop k x)) (noDrop-snoc k es e)
   where
-    go : (t : Bool) → noDrop k (es ++ (e ∷ [])) ≡ (noDrop k es && not (isDrop k e))
-        → (t && noDrop k (es ++ (e ∷ []))) ≡ (t && noDrop k es && not (isDrop k e))
+    go : (t : Bool) → noCall (isDrop k) (es ++ (e ∷ [])) ≡ (noCall (isDrop k) es && not (isDrop k e))
+        → (t && noCall (isDrop k) (es ++ (e ∷ []))) ≡ (t && noCall (isDrop k) es && not (isDrop k e))
     go true ih = ih
     go false ih = refl
 
@@ -50,7 +50,7 @@ regroup true true false false y = refl
 -- a hold and its later drop: the new call drops what was held before it, or holds
 pub heldIn-snoc : (k : ℕ) (es : List Call) (e : Call)
     → heldIn k (es ++ (e ∷ [])) ≡ (heldIn k es && not (isDrop k e) || isHold k e)
-unfolding heldIn noDrop
+unfolding heldIn noCall
 heldIn-snoc k [] e = go (isHold k e)
   where
     go : (t : Bool) → (t && true || false) ≡ t
@@ -58,7 +58,7 @@ heldIn-snoc k [] e = go (isHold k e)
     go false = refl
 heldIn-snoc k (x ∷ es) e =
     rw (noDrop-snoc k es e, heldIn-snoc k es e)
-    (regroup (isHold k x) (noDrop k es) (not (isDrop k e)) (heldIn k es) (isHold k e))
+    (regroup (isHold k x) (noCall (isDrop k) es) (not (isDrop k e)) (heldIn k es) (isHold k e))
 
 -- ---- the book after one more call
 
@@ -90,7 +90,7 @@ since-more {h} {b} {b′} S e f p q u s =
 
 pub since-start : (h : List Call) (file mvs speeds queues : List ℕ)
     → Since (h ++ (start file mvs speeds queues ∷ [])) (started (networkOf file) (startCase (networkOf file) mvs speeds queues))
-unfolding noStart heldIn stepsIn
+unfolding noCall heldIn stepsIn
 since-start h file mvs speeds queues =
     record {
       before = h;

@@ -1,16 +1,16 @@
 -- Words and speeds past the stated lengths are never changed.
 use Prim.Native.Nat.{ℕ, zero, suc, _≤_}
 use mathlib.Core.Path.{_≡_, refl, _∙_}
-use mathlib.Core.Bool.{true}
+use mathlib.Core.Bool.{true, not}
 use mathlib.Core.List.{List, [], _∷_}
-use lib.Dec.{leb}
+use lib.Dec.{ltb}
+use borrow.Author.Tests.{ltb-false, not-true}
 use lib.ListN.{drop}
-use borrow.Author.Tests.{leb-true}
 use Rattle.laws.proofs.Tests.{and-left, and-right}
 use Rattle.format.specs.Network.{Network}
 use Rattle.metanet.specs.Case.{Case}
 use Rattle.book.specs.Arrangement.{wordsFor, speedsFor, sizeAt}
-use Rattle.book.specs.Calls.{Call, start, hold, recall, dropSlot, broughtBy, sizesWithin, item, question}
+use Rattle.book.specs.Calls.{Call, start, hold, recall, dropSlot, item, question, bringsOver, noCall}
 use Rattle.book.specs.Refusal.{refusal}
 use Rattle.book.specs.Perform.{Arrays, unless, perform, stored, taken, refusalAt, after}
 use Rattle.book.specs.Book.{Book, entered, groundsIn, enter}
@@ -43,19 +43,19 @@ module _ (m : ℕ) where
         let h : sizeAt (a .words) ≤ m = rw (size-view r) hm in
         record { words-past = s .words-past m h; speeds-past = s .speeds-past m h }
 
-    store-past : (c : Call) → refusal c (groundsIn words speeds b) ≡ 0 → leb (broughtBy c) m ≡ true → Past m (stored c a) a
+    store-past : (c : Call) → refusal c (groundsIn words speeds b) ≡ 0 → not (bringsOver m c) ≡ true → Past m (stored c a) a
     unfolding stored refusal
     store-past (start file mvs initial queues) e h =
-        begun-past (start-store file mvs initial queues a (groundsIn words speeds b) (r .words-long) (r .speeds-long) e) (leb-true _ _ h)
+        begun-past (start-store file mvs initial queues a (groundsIn words speeds b) (r .words-long) (r .speeds-long) e) (ltb-false _ _ (not-true (ltb m _) h))
     store-past (item i) e h = stored-past (item-store r i e)
     store-past (hold k) e h = stored-past (hold-store r k e)
     store-past (recall k) e h = stored-past (recall-store r k e)
     store-past (dropSlot k) e h = stored-past (drop-store r k e)
     store-past (question q) e h = past-refl
 
-    entered-size : (c : Call) → leb (broughtBy c) m ≡ true → entered c b .network .head .size ≤ m
+    entered-size : (c : Call) → not (bringsOver m c) ≡ true → entered c b .network .head .size ≤ m
     unfolding entered
-    entered-size (start file mvs initial queues) h = leb-true _ _ h
+    entered-size (start file mvs initial queues) h = ltb-false _ _ (not-true (ltb m _) h)
     entered-size (item i) h = hm
     entered-size (hold k) h = hm
     entered-size (recall k) h = hm
@@ -63,21 +63,21 @@ module _ (m : ℕ) where
     entered-size (question q) h = hm
 
     -- the call is refused, or it is one of those accepted: the later ones are within m too
-    call-past : (c : Call) (later : List Call) → sizesWithin m (ifAccepted (refusalAt c a) (c ∷ later) later) ≡ true
-        → Past m (perform c a .state) a × (enter words speeds c b .state .network .head .size ≤ m) × (sizesWithin m later ≡ true)
-    unfolding perform enter unless sizesWithin ifAccepted
+    call-past : (c : Call) (later : List Call) → noCall (bringsOver m) (ifAccepted (refusalAt c a) (c ∷ later) later) ≡ true
+        → Past m (perform c a .state) a × (enter words speeds c b .state .network .head .size ≤ m) × (noCall (bringsOver m) later ≡ true)
+    unfolding perform enter unless noCall ifAccepted
     call-past c later h = rw (refusal-view r c) (go (refusal c (groundsIn words speeds b)) refl (rw (refusal-view r c) at h))
       where
-        go : (n : ℕ) → refusal c (groundsIn words speeds b) ≡ n → sizesWithin m (ifAccepted n (c ∷ later) later) ≡ true
-            → Past m (unless n a (onArrays c a) .state) a × (unless n b (inBook c b) .state .network .head .size ≤ m) × (sizesWithin m later ≡ true)
+        go : (n : ℕ) → refusal c (groundsIn words speeds b) ≡ n → noCall (bringsOver m) (ifAccepted n (c ∷ later) later) ≡ true
+            → Past m (unless n a (onArrays c a) .state) a × (unless n b (inBook c b) .state .network .head .size ≤ m) × (noCall (bringsOver m) later ≡ true)
         go zero e k =
-            let within = and-left (leb (broughtBy c) m) (sizesWithin m later) k in
-            (store-past c e within, entered-size c within, and-right (leb (broughtBy c) m) (sizesWithin m later) k)
+            let within = and-left (not (bringsOver m c)) (noCall (bringsOver m) later) k in
+            (store-past c e within, entered-size c within, and-right (not (bringsOver m c)) (noCall (bringsOver m) later) k)
         go (suc n) e k = (past-refl, hm, k)
 
   -- ---- the whole list
   pub list-past : (words speeds : ℕ) (cs : List Call) (a : Arrays) (b : Book) → Rel words speeds a b → b .network .head .size ≤ m
-      → sizesWithin m (taken cs a) ≡ true → Past m (after perform cs a) a
+      → noCall (bringsOver m) (taken cs a) ≡ true → Past m (after perform cs a) a
   unfolding taken after
   list-past words speeds [] a b r h e = past-refl
   list-past words speeds (c ∷ cs) a b r h e =

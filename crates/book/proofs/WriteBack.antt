@@ -18,7 +18,7 @@ use Rattle.format.proofs.File.{file-accepted}
 use Rattle.format.proofs.RoundTrip.{round-trip}
 use Rattle.book.specs.Arrangement.{networkAt}
 use Rattle.book.specs.Sound.{sound}
-use Rattle.book.specs.Calls.{Call, start, hold, recall, dropSlot, isStart, noStart, item, question}
+use Rattle.book.specs.Calls.{Call, start, hold, recall, dropSlot, isStart, item, question, noCall}
 use Rattle.metanet.specs.Start.{startCase}
 use Rattle.book.specs.Refusal.{refusal}
 use Rattle.book.specs.Perform.{Arrays, refusalAt, after, perform}
@@ -51,16 +51,16 @@ module _ (file : List ℕ) (bs : Bytes file) (f : fileNumber file ≡ 0) where
 
 -- ---- the last accepted Start, where no accepted call after the first is one
 
-has-start : (cs : List Call) (s : Call) (later : List Call) → isStart s ≡ true → noStart (cs ++ (s ∷ later)) ≡ true → ⊥
-unfolding noStart
-has-start [] s later e n = false≢true (ap not (sym e) ∙ and-left (not (isStart s)) (noStart later) n)
-has-start (x ∷ cs) s later e n = has-start cs s later e (and-right (not (isStart x)) (noStart (cs ++ (s ∷ later))) n)
+has-start : (cs : List Call) (s : Call) (later : List Call) → isStart s ≡ true → noCall isStart (cs ++ (s ∷ later)) ≡ true → ⊥
+unfolding noCall
+has-start [] s later e n = false≢true (ap not (sym e) ∙ and-left (not (isStart s)) (noCall isStart later) n)
+has-start (x ∷ cs) s later e n = has-start cs s later e (and-right (not (isStart x)) (noCall isStart (cs ++ (s ∷ later))) n)
 
 -- a Start in such a list is its first call
-only-start : (c : Call) (cs before : List Call) (s : Call) (later : List Call) → noStart cs ≡ true → isStart s ≡ true
+only-start : (c : Call) (cs before : List Call) (s : Call) (later : List Call) → noCall isStart cs ≡ true → isStart s ≡ true
     → (c ∷ cs) ≡ before ++ (s ∷ later) → c ≡ s
 only-start c cs [] s later n t p = head-eq-of-cons-eq p
-only-start c cs (x ∷ before) s later n t p = absurd (has-start before s later t (ap noStart (sym (tail-eq-of-cons-eq p)) ∙ n))
+only-start c cs (x ∷ before) s later n t p = absurd (has-start before s later t (ap (noCall isStart) (sym (tail-eq-of-cons-eq p)) ∙ n))
 
 -- the file that a Start brings
 abbrev fileIn : Call → List ℕ
@@ -72,7 +72,7 @@ file-taken : (file mvs initial queues : List ℕ) (a : Arrays) → refusalAt (st
 unfolding refusalAt row refusal
 file-taken file mvs initial queues a e = first-zero-left _ _ e
 
-file-is : (file mvs initial queues : List ℕ) (cs : List Call) (b : Book) → noStart cs ≡ true → (s : Since (start file mvs initial queues ∷ cs) b) → s .file ≡ file
+file-is : (file mvs initial queues : List ℕ) (cs : List Call) (b : Book) → noCall isStart cs ≡ true → (s : Since (start file mvs initial queues ∷ cs) b) → s .file ≡ file
 file-is file mvs initial queues cs b n s =
     sym (ap fileIn
     (only-start (start file mvs initial queues) cs (s .before) (start (s .file) (s .mvs) (s .speeds) (s .queues)) (s .later) n refl (s .split)))

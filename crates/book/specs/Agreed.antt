@@ -5,7 +5,7 @@ use mathlib.Core.Bool.{true}
 use mathlib.Core.List.{List, _∷_}
 use Rattle.book.specs.Arrangement.{networkAt, filledAt, caseAt}
 use Rattle.book.specs.Question.{CaseQuestion, ofCase}
-use Rattle.book.specs.Calls.{Call, start, hold, question, noStart, noDrop}
+use Rattle.book.specs.Calls.{Call, start, hold, question, isStart, noCall, isDrop}
 use Rattle.book.specs.Perform.{Arrays, refusalAt, perform, after, taken}
 
 -- the arrays x before a hold into slot k, y right after it and z after later calls
@@ -25,5 +25,5 @@ AgreedCase =
     → (let x : Arrays = after perform (start file mvs speeds queues ∷ before) a in
     let y : Arrays = perform (hold k) x .state in
     refusalAt (start file mvs speeds queues) a ≡ 0 → refusalAt (hold k) x ≡ 0
-    → noStart (taken later y) ≡ true → noDrop k (taken later y) ≡ true
+    → noCall isStart (taken later y) ≡ true → noCall (isDrop k) (taken later y) ≡ true
     → StaysAgreed k x y (after perform later y))

@@ -17,21 +17,16 @@ use Rattle.metanet.specs.Words.{netOf, caseIn}
 abbrev pub slots : ℕ
 slots = 6
 
--- the run count's word, the first after the network's
+-- the run count's word, the first after the network's; then the marks of slots 1..6
 abbrev pub runWord : ℕ
 runWord = networkWords
 
--- the mark of slot k
 abbrev pub markWord : ℕ → ℕ
 markWord k = runWord + k
 
--- the words of run count, marks and arrangement number, with some that are free
+-- the words of run count and marks, with some that are free, and last the arrangement number
 abbrev pub marksLength : ℕ
 marksLength = 16
-
--- the arrangement number's word, the last of them
-abbrev pub arrangementWord : ℕ
-arrangementWord = runWord + 15
 
 -- the number of this arrangement: another one is another number
 abbrev pub arrangement : ℕ
@@ -41,11 +36,10 @@ arrangement = 1
 unfoldable pub startMarks : List ℕ
 startMarks = replicate 15 0 ++ (arrangement ∷ [])
 
--- the words of a case of n segments
+-- a case of n segments: its words, and as case k its first word and first speed
 abbrev pub caseLength : ℕ → ℕ
 caseLength n = 16 * n + 8
 
--- case k's first word and first speed
 abbrev pub caseWord : ℕ → ℕ → ℕ
 caseWord n k = runWord + marksLength + k * caseLength n
 
@@ -71,7 +65,7 @@ abbrev pub runCountAt : List ℕ → ℕ
 runCountAt words = getD words runWord 0
 
 abbrev pub arrangementAt : List ℕ → ℕ
-arrangementAt words = getD words arrangementWord 0
+arrangementAt words = getD words (runWord + 15) 0
 
 abbrev pub markAt : List ℕ → ℕ → ℕ
 markAt words k = getD words (markWord k) 0

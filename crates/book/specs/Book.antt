@@ -64,14 +64,7 @@ entered (question q) b = b
 -- judged on its arguments, the two lengths and the book; 12 never applies there
 abbrev pub groundsIn : ℕ → ℕ → Book → Grounds
 groundsIn words speeds b =
-    record {
-      words = words;
-      speeds = speeds;
-      network = b .network;
-      steps = stepsOf (b .live);
-      runs = b .runs;
-      filled = λ k. isFilled (b .slot k);
-    }
+    record { words = words; speeds = speeds; network = b .network; steps = stepsOf (b .live); runs = b .runs; filled = λ k. isFilled (b .slot k) }
 
 -- a refused call changes nothing
 unfoldable pub enter : ℕ → ℕ → Call → Book → Outcome Book

@@ -2,7 +2,7 @@
 use Prim.Native.Nat.{ℕ, _+_}
 use mathlib.Core.Bool.{Bool, true, false, _&&_, _||_, not}
 use mathlib.Core.List.{List, [], _∷_}
-use lib.Dec.{leb, eqb}
+use lib.Dec.{ltb, eqb}
 use Rattle.format.specs.File.{networkOf}
 use Rattle.metanet.specs.Line.{Item, itemSteps}
 use Rattle.book.specs.declared.Verdict.{Verdict}
@@ -41,31 +41,23 @@ isDrop j = elim [ start file mvs speeds queues ↦ false | item i ↦ false | ho
 abbrev pub stepsBy : Call → ℕ
 stepsBy = elim [ start file mvs speeds queues ↦ 0 | item i ↦ itemSteps i | hold k ↦ 0 | recall k ↦ 0 | dropSlot k ↦ 0 | question q ↦ 0 ]
 
--- the segments of the network that a Start brings
-abbrev pub broughtBy : Call → ℕ
-broughtBy = elim [ start file mvs speeds queues ↦ networkOf file .head .size | item i ↦ 0 | hold k ↦ 0 | recall k ↦ 0 | dropSlot k ↦ 0 | question q ↦ 0 ]
+-- a Start with more than m segments
+abbrev pub bringsOver : ℕ → Call → Bool
+bringsOver m = elim [ start file mvs speeds queues ↦ ltb m (networkOf file .head .size) | item i ↦ false | hold k ↦ false | recall k ↦ false | dropSlot k ↦ false | question q ↦ false ]
 
 -- ---- what is among the calls of a list
 
-unfoldable pub noStart : List Call → Bool
-noStart [] = true
-noStart (c ∷ cs) = not (isStart c) && noStart cs
-
--- no Start brings more than m segments
-unfoldable pub sizesWithin : ℕ → List Call → Bool
-sizesWithin m [] = true
-sizesWithin m (c ∷ cs) = leb (broughtBy c) m && sizesWithin m cs
+-- no call of the list is such a call
+unfoldable pub noCall : (Call → Bool) → List Call → Bool
+noCall such [] = true
+noCall such (c ∷ cs) = not (such c) && noCall such cs
 
 unfoldable pub stepsIn : List Call → ℕ
 stepsIn [] = 0
 stepsIn (c ∷ cs) = stepsBy c + stepsIn cs
 
-unfoldable pub noDrop : ℕ → List Call → Bool
-noDrop k [] = true
-noDrop k (c ∷ cs) = not (isDrop k c) && noDrop k cs
-
 -- a hold into slot k, and no drop of it after that hold
 unfoldable pub heldIn : ℕ → List Call → Bool
-unfolding noDrop
+unfolding noCall
 heldIn k [] = false
-heldIn k (c ∷ cs) = isHold k c && noDrop k cs || heldIn k cs
+heldIn k (c ∷ cs) = isHold k c && noCall (isDrop k) cs || heldIn k cs

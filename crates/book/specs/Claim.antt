@@ -14,7 +14,7 @@ use Rattle.metanet.specs.Line.{Line, caseOf, arrivalsOf, exitsOf}
 use Rattle.book.specs.Arrangement.{wordsFor, speedsFor, networkAt, runCountAt, filledAt, caseAt}
 use Rattle.book.specs.Sound.{sound}
 use Rattle.book.specs.Question.{Answer, accepted}
-use Rattle.book.specs.Calls.{Call, start, noStart, sizesWithin, stepsIn, heldIn}
+use Rattle.book.specs.Calls.{Call, start, stepsIn, heldIn, isStart, noCall, bringsOver}
 use Rattle.book.specs.Perform.{Arrays, refusalAt, Performs, after, answers, taken, Outcome, perform}
 use Rattle.book.specs.Book.{Book, isFilled, enter}
 
@@ -36,7 +36,7 @@ pub record Since (h : List Call) (b : Book) : Type 0 where
   pub queues : List ℕ
   pub later : List Call
   pub split : h ≡ before ++ (start file mvs speeds queues ∷ later)
-  pub last : noStart later ≡ true
+  pub last : noCall isStart later ≡ true
   pub network : b .network ≡ networkOf file
   pub begun : b .begun ≡ startCase (networkOf file) mvs speeds queues
   -- a slot is filled exactly when a hold into it was accepted and no drop of it after that hold
@@ -58,8 +58,6 @@ pub record Holds (a : Arrays) (xs : List Answer) (z : Arrays) (h : List Call) (y
   pub runs : runCountAt (z .words) ≡ b .runs
   -- the last accepted Start, and what was accepted since
   pub since : Since h b
-  pub filled-since : (k : ℕ) → filledAt (z .words) k ≡ heldIn k (since .later)
-  pub runs-since : runCountAt (z .words) ≡ stepsIn (since .later)
   -- arrivals, exits and vehicles of the live and each held line
   pub live-balance : Balanced (b .network) (b .begun) (handed (b .network) (since .mvs) (since .queues)) (b .live) (caseAt (z .words) (z .speeds) 0)
   pub held-balance : (k : ℕ) (l : Line) → b .slot k ≡ some l
@@ -68,8 +66,8 @@ pub record Holds (a : Arrays) (xs : List Answer) (z : Arrays) (h : List Call) (y
   pub is-sound : sound (z .words) (z .speeds) ≡ true
   pub words-long : length (z .words) ≡ length (a .words)
   pub speeds-long : length (z .speeds) ≡ length (a .speeds)
-  pub words-past : (m : ℕ) → sizesWithin m h ≡ true → drop (wordsFor m) (z .words) ≡ drop (wordsFor m) (a .words)
-  pub speeds-past : (m : ℕ) → sizesWithin m h ≡ true → drop (speedsFor m) (z .speeds) ≡ drop (speedsFor m) (a .speeds)
+  pub words-past : (m : ℕ) → noCall (bringsOver m) h ≡ true → drop (wordsFor m) (z .words) ≡ drop (wordsFor m) (a .words)
+  pub speeds-past : (m : ℕ) → noCall (bringsOver m) h ≡ true → drop (speedsFor m) (z .speeds) ≡ drop (speedsFor m) (a .speeds)
 
 -- the list cs on the arrays a, with the answers xs and the arrays z at its end, beside the book b, which is given the two lengths
 abbrev pub HoldsOf : List Call → Arrays → List Answer → Arrays → Book → Type 0

@@ -36,13 +36,9 @@ itemNumber (stepped arrivals) g =
     let w = g .network in
     first (stepNumber (w .head) (entryOf w) (segmentOf w) (g .steps) arrivals) (row (leb runsMost (g .runs)) 16 0)
 
--- 21 no such slot
-abbrev pub slotMissing : ℕ → Bool
-slotMissing k = outside 1 k slots
-
--- Recall and Drop: 21; 23 an empty slot
+-- Recall and Drop: 21 no such slot; 23 an empty one
 unfoldable pub slotRefusal : ℕ → Grounds → ℕ
-slotRefusal k g = row (slotMissing k) 21 (row (not (g .filled k)) 23 0)
+slotRefusal k g = row (outside 1 k slots) 21 (row (not (g .filled k)) 23 0)
 
 -- a question about a case: 21; 23; then its own rows. Case 0 is the live one
 unfoldable pub questionRefusal : Question → Grounds → ℕ
@@ -59,7 +55,7 @@ refusal (start file mvs speeds queues) g =
     (startNumber w mvs speeds queues))
 refusal (item i) g = itemNumber i g
 -- 21; 22 Hold into a filled slot
-refusal (hold k) g = row (slotMissing k) 21 (row (g .filled k) 22 0)
+refusal (hold k) g = row (outside 1 k slots) 21 (row (g .filled k) 22 0)
 refusal (recall k) g = slotRefusal k g
 refusal (dropSlot k) g = slotRefusal k g
 refusal (question q) g = questionRefusal q g

@@ -15,7 +15,7 @@ use Rattle.book.specs.declared.Written.the-variants as written
 use Rattle.book.specs.Arrangement.{networkAt}
 use Rattle.book.specs.Sound.{sound}
 use Rattle.book.specs.Question.{Answer, refused, figures}
-use Rattle.book.specs.Calls.{Call, start, noStart}
+use Rattle.book.specs.Calls.{Call, start, isStart, noCall}
 use Rattle.book.specs.Perform.{Arrays, refusalAt, perform, after, taken}
 
 -- 12 study not sound; 24 buffer too short
@@ -45,7 +45,7 @@ abbrev pub StudyWritesBack : Type 0
 StudyWritesBack =
     (file mvs speeds queues : List ℕ) (cs : List Call) (a : Arrays) (out : List ℕ)
     → refusalAt (start file mvs speeds queues) a ≡ 0
-    → noStart (taken cs (perform (start file mvs speeds queues) a .state)) ≡ true
+    → noCall isStart (taken cs (perform (start file mvs speeds queues) a .state)) ≡ true
     → Bytes file
     → length file ≤ length out
     → (let z : Arrays = after perform (start file mvs speeds queues ∷ cs) a in

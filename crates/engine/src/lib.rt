@@ -2,15 +2,18 @@
 mod report; // report.rt: figures put into lent words
 
 ghost use mathlib.Core.Path.{_≡_};
+ghost use mathlib.Core.Bool.{not};
+ghost use mathlib.Core.List.{[]};
+ghost use Rattle.laws.specs.First.{row};
 ghost use Rattle.format.specs.File.{fileNumber};
 ghost use Rattle.format.specs.Curve.{curveCallNumber};
 ghost use Rattle.metanet.specs.declared.Setting.the-variants.{Open, Fixed, Alinea};
 ghost use Rattle.metanet.specs.Line.{signed, metered, stepped};
+ghost use Rattle.book.specs.Sound.{sound};
 ghost use Rattle.book.specs.Question.{totals, segment, ofCase, runCount};
 ghost use Rattle.book.specs.Calls.{start, item, hold, recall, dropSlot, question, verdictSays};
-ghost use Rattle.book.specs.Write.{writtenBytes, writeAnswer};
-ghost use Rattle.engine.specs.Place.{curvePlaceNumber, curvePlaceWords, placeFigures};
-ghost use Rattle.engine.specs.Study.{soundness, numberOf, putNumber, putFigures, Called, Reported};
+ghost use Rattle.book.specs.Write.{writeRefusal, writtenBytes};
+ghost use Rattle.engine.specs.Study.{numberOf, toldNumber, toldWords, curvePlace, filePlace, Called};
 
 // The number that refuses a network file, and 0 where it is accepted.
 #[no_mangle]
@@ -28,31 +31,25 @@ pub extern "C" fn network_curve_number(file: &[u8], k: u64) -> u64
     network::curve_number(file, k)
 }
 
-// Where curve k stands in the file: its byte offset into place[0] and its length into place[1]. Gives the number that refuses the
-// curve, 24 where fewer than two words are lent, and 0; a refused call leaves the words as they came.
+// Where curve k stands in the file: its byte offset into place[0] and its length into place[1].
 #[no_mangle]
 pub extern "C" fn network_curve(file: &[u8], k: u64, place: &mut [u64]) -> u64
-    ensures { λ r. ⌜ r ≡ curvePlaceNumber (now (file .entry)) k (now (place .entry)) ⌝ }
-    ensures { λ _. ⌜ now (place .exit) ≡ curvePlaceWords (now (file .entry)) k (now (place .entry)) ⌝ }
+    ensures { λ r. ⌜ r ≡ toldNumber (curvePlace (now (file .entry)) k) (now (place .entry)) ⌝ }
+    ensures { λ _. ⌜ now (place .exit) ≡ toldWords (curvePlace (now (file .entry)) k) (now (place .entry)) ⌝ }
 {
     let r = network::curve_number(file, k);
     if r != 0 {
         return r;
     }
-    if place.len() < 2 {
-        return 24;
-    }
-    place[0] = 16 + 804 * k;
-    place[1] = 804;
-    0
+    let two = [16 + 804 * k, 804];
+    report::put_figures(&two, place)
 }
 
-// Where a file is wrong, as the crate `places` says it: the number that refuses it, or 0, then part, rule and byte offset, into
-// place[0] to place[3]. Gives 24 where fewer than four words are lent, with the words as they came, or 0.
+// Where a file is wrong: the number that refuses it, or 0, then part, rule and byte offset, into place[0] to place[3].
 #[no_mangle]
 pub extern "C" fn network_place(file: &[u8], place: &mut [u64]) -> u64
-    ensures { λ r. ⌜ r ≡ putNumber (placeFigures (now (file .entry))) (now (place .entry)) ⌝ }
-    ensures { λ _. ⌜ now (place .exit) ≡ putFigures (placeFigures (now (file .entry))) (now (place .entry)) ⌝ }
+    ensures { λ r. ⌜ r ≡ toldNumber (filePlace (now (file .entry))) (now (place .entry)) ⌝ }
+    ensures { λ _. ⌜ now (place .exit) ≡ toldWords (filePlace (now (file .entry))) (now (place .entry)) ⌝ }
 {
     let p = places::place_of(file);
     let four = [p.number, p.part as u64, p.rule, p.offset];
@@ -74,7 +71,7 @@ fn number_of(verdict: book::Verdict) -> u64
 // 12 where the arrays do not hold a sound study, or 0.
 #[no_mangle]
 pub extern "C" fn study_sound(words: &[u64], speeds: &[f64]) -> u64
-    ensures { λ r. ⌜ r ≡ soundness (now (words .entry)) (now (speeds .entry)) ⌝ }
+    ensures { λ r. ⌜ r ≡ row (not (sound (now (words .entry)) (now (speeds .entry)))) 12 0 ⌝ }
 {
     if sound::sound(words, speeds) {
         return 0;
@@ -92,7 +89,7 @@ pub extern "C" fn study_start(
     initial: &[u32],
     queues: &[u32],
 ) -> u64
-    ensures { λ r. ⌜ Called (start (now (file .entry)) (now (mvs .entry)) (now (initial .entry)) (now (queues .entry))) (now (words .entry)) (now (speeds .entry)) r (now (words .exit)) (now (speeds .exit)) ⌝ }
+    ensures { λ r. ⌜ Called (start (now (file .entry)) (now (mvs .entry)) (now (initial .entry)) (now (queues .entry))) (now (words .entry)) (now (speeds .entry)) [] r (now (words .exit)) (now (speeds .exit)) [] ⌝ }
 {
     number_of(study::start(words, speeds, file, mvs, initial, queues))
 }
@@ -106,7 +103,7 @@ pub extern "C" fn study_sign(
     limit: u64,
     compliance: i64,
 ) -> u64
-    ensures { λ r. ⌜ Called (item (signed segment limit compliance)) (now (words .entry)) (now (speeds .entry)) r (now (words .exit)) (now (speeds .entry)) ⌝ }
+    ensures { λ r. ⌜ Called (item (signed segment limit compliance)) (now (words .entry)) (now (speeds .entry)) [] r (now (words .exit)) (now (speeds .entry)) [] ⌝ }
 {
     number_of(study::sign(words, speeds, segment, limit, compliance))
 }
@@ -114,7 +111,7 @@ pub extern "C" fn study_sign(
 // The setting of a segment's ramp in the live case: open, fixed, or ALINEA.
 #[no_mangle]
 pub extern "C" fn study_meter_open(words: &mut [u64], speeds: &[f64], segment: u64) -> u64
-    ensures { λ r. ⌜ Called (item (metered segment Open)) (now (words .entry)) (now (speeds .entry)) r (now (words .exit)) (now (speeds .entry)) ⌝ }
+    ensures { λ r. ⌜ Called (item (metered segment Open)) (now (words .entry)) (now (speeds .entry)) [] r (now (words .exit)) (now (speeds .entry)) [] ⌝ }
 {
     number_of(study::meter(words, speeds, segment, metanet::Setting::Open))
 }
@@ -126,7 +123,7 @@ pub extern "C" fn study_meter_fixed(
     segment: u64,
     rate: u64,
 ) -> u64
-    ensures { λ r. ⌜ Called (item (metered segment (Fixed rate))) (now (words .entry)) (now (speeds .entry)) r (now (words .exit)) (now (speeds .entry)) ⌝ }
+    ensures { λ r. ⌜ Called (item (metered segment (Fixed rate))) (now (words .entry)) (now (speeds .entry)) [] r (now (words .exit)) (now (speeds .entry)) [] ⌝ }
 {
     number_of(study::meter(words, speeds, segment, metanet::Setting::Fixed(rate)))
 }
@@ -141,7 +138,7 @@ pub extern "C" fn study_meter_alinea(
     least: u64,
     interval: u64,
 ) -> u64
-    ensures { λ r. ⌜ Called (item (metered segment (Alinea target gain least interval))) (now (words .entry)) (now (speeds .entry)) r (now (words .exit)) (now (speeds .entry)) ⌝ }
+    ensures { λ r. ⌜ Called (item (metered segment (Alinea target gain least interval))) (now (words .entry)) (now (speeds .entry)) [] r (now (words .exit)) (now (speeds .entry)) [] ⌝ }
 {
     let setting = metanet::Setting::Alinea {
         target,
@@ -155,7 +152,7 @@ pub extern "C" fn study_meter_alinea(
 // One step of the live case.
 #[no_mangle]
 pub extern "C" fn study_step(words: &mut [u64], speeds: &mut [f64], arrivals: &[u32]) -> u64
-    ensures { λ r. ⌜ Called (item (stepped (now (arrivals .entry)))) (now (words .entry)) (now (speeds .entry)) r (now (words .exit)) (now (speeds .exit)) ⌝ }
+    ensures { λ r. ⌜ Called (item (stepped (now (arrivals .entry)))) (now (words .entry)) (now (speeds .entry)) [] r (now (words .exit)) (now (speeds .exit)) [] ⌝ }
 {
     number_of(study::step(words, speeds, arrivals))
 }
@@ -163,7 +160,7 @@ pub extern "C" fn study_step(words: &mut [u64], speeds: &mut [f64], arrivals: &[
 // The live case into a slot.
 #[no_mangle]
 pub extern "C" fn study_hold(words: &mut [u64], speeds: &mut [f64], slot: u64) -> u64
-    ensures { λ r. ⌜ Called (hold slot) (now (words .entry)) (now (speeds .entry)) r (now (words .exit)) (now (speeds .exit)) ⌝ }
+    ensures { λ r. ⌜ Called (hold slot) (now (words .entry)) (now (speeds .entry)) [] r (now (words .exit)) (now (speeds .exit)) [] ⌝ }
 {
     number_of(study::hold(words, speeds, slot))
 }
@@ -171,7 +168,7 @@ pub extern "C" fn study_hold(words: &mut [u64], speeds: &mut [f64], slot: u64) -
 // A slot's case over the live one.
 #[no_mangle]
 pub extern "C" fn study_recall(words: &mut [u64], speeds: &mut [f64], slot: u64) -> u64
-    ensures { λ r. ⌜ Called (recall slot) (now (words .entry)) (now (speeds .entry)) r (now (words .exit)) (now (speeds .exit)) ⌝ }
+    ensures { λ r. ⌜ Called (recall slot) (now (words .entry)) (now (speeds .entry)) [] r (now (words .exit)) (now (speeds .exit)) [] ⌝ }
 {
     number_of(study::recall(words, speeds, slot))
 }
@@ -179,7 +176,7 @@ pub extern "C" fn study_recall(words: &mut [u64], speeds: &mut [f64], slot: u64)
 // Empties a slot.
 #[no_mangle]
 pub extern "C" fn study_drop(words: &mut [u64], speeds: &[f64], slot: u64) -> u64
-    ensures { λ r. ⌜ Called (dropSlot slot) (now (words .entry)) (now (speeds .entry)) r (now (words .exit)) (now (speeds .entry)) ⌝ }
+    ensures { λ r. ⌜ Called (dropSlot slot) (now (words .entry)) (now (speeds .entry)) [] r (now (words .exit)) (now (speeds .entry)) [] ⌝ }
 {
     number_of(study::drop_slot(words, speeds, slot))
 }
@@ -187,7 +184,7 @@ pub extern "C" fn study_drop(words: &mut [u64], speeds: &[f64], slot: u64) -> u6
 // Six figures of case k.
 #[no_mangle]
 pub extern "C" fn study_report(words: &[u64], speeds: &[f64], k: u64, figures: &mut [u64]) -> u64
-    ensures { λ r. ⌜ Reported (question (ofCase k totals)) (now (words .entry)) (now (speeds .entry)) (now (figures .entry)) r (now (figures .exit)) ⌝ }
+    ensures { λ r. ⌜ Called (question (ofCase k totals)) (now (words .entry)) (now (speeds .entry)) (now (figures .entry)) r (now (words .entry)) (now (speeds .entry)) (now (figures .exit)) ⌝ }
 {
     report::put_case(reports::report(words, speeds, k), figures)
 }
@@ -201,7 +198,7 @@ pub extern "C" fn study_report_segment(
     i: u64,
     figures: &mut [u64],
 ) -> u64
-    ensures { λ r. ⌜ Reported (question (ofCase k (segment i))) (now (words .entry)) (now (speeds .entry)) (now (figures .entry)) r (now (figures .exit)) ⌝ }
+    ensures { λ r. ⌜ Called (question (ofCase k (segment i))) (now (words .entry)) (now (speeds .entry)) (now (figures .entry)) r (now (words .entry)) (now (speeds .entry)) (now (figures .exit)) ⌝ }
 {
     report::put_segment(reports::report_segment(words, speeds, k, i), figures)
 }
@@ -209,7 +206,7 @@ pub extern "C" fn study_report_segment(
 // The run count.
 #[no_mangle]
 pub extern "C" fn study_run_count(words: &[u64], speeds: &[f64], figures: &mut [u64]) -> u64
-    ensures { λ r. ⌜ Reported (question runCount) (now (words .entry)) (now (speeds .entry)) (now (figures .entry)) r (now (figures .exit)) ⌝ }
+    ensures { λ r. ⌜ Called (question runCount) (now (words .entry)) (now (speeds .entry)) (now (figures .entry)) r (now (words .entry)) (now (speeds .entry)) (now (figures .exit)) ⌝ }
 {
     report::put_runs(reports::run_count(words, speeds), figures)
 }
@@ -217,7 +214,7 @@ pub extern "C" fn study_run_count(words: &[u64], speeds: &[f64], figures: &mut [
 // Writes the study's network as a file from the buffer's first byte on; later bytes stay.
 #[no_mangle]
 pub extern "C" fn study_write(words: &[u64], speeds: &[f64], out: &mut [u8]) -> u64
-    ensures { λ r. ⌜ r ≡ numberOf (writeAnswer (now (words .entry)) (now (speeds .entry)) (now (out .entry))) ⌝ }
+    ensures { λ r. ⌜ r ≡ writeRefusal (now (words .entry)) (now (speeds .entry)) (now (out .entry)) ⌝ }
     ensures { λ _. ⌜ now (out .exit) ≡ writtenBytes (now (words .entry)) (now (speeds .entry)) (now (out .entry)) ⌝ }
 {
     match reports::write(words, speeds, out) {

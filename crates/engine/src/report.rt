@@ -1,23 +1,23 @@
 // Figures put into lent words.
 ghost use mathlib.Core.Path.{_≡_};
-ghost use Rattle.book.specs.Question.{caseSays, segmentSays, runSays};
-ghost use Rattle.engine.specs.Study.{putNumber, putFigures, reportNumber, reportWords};
+ghost use Rattle.book.specs.Question.{figures, caseSays, segmentSays, runSays};
+ghost use Rattle.engine.specs.Study.{toldNumber, toldWords};
 
-// 24 where out is shorter than the figures, with out as it came, or 0.
-pub(crate) fn put_figures(figures: &[u64], out: &mut [u64]) -> u64
-    ensures { λ r. ⌜ r ≡ putNumber (now (figures .entry)) (now (out .entry)) ⌝ }
-    ensures { λ _. ⌜ now (out .exit) ≡ putFigures (now (figures .entry)) (now (out .entry)) ⌝ }
+// 24 where out is shorter than the values, with out as it came, or 0.
+pub(crate) fn put_figures(values: &[u64], out: &mut [u64]) -> u64
+    ensures { λ r. ⌜ r ≡ toldNumber (figures (now (values .entry))) (now (out .entry)) ⌝ }
+    ensures { λ _. ⌜ now (out .exit) ≡ toldWords (figures (now (values .entry))) (now (out .entry)) ⌝ }
 {
-    if out.len() < figures.len() {
+    if out.len() < values.len() {
         return 24;
     }
-    arrays::put_words(figures, out);
+    arrays::put_words(values, out);
     0
 }
 
 pub(crate) fn put_case(report: book::CaseReport, out: &mut [u64]) -> u64
-    ensures { λ r. ⌜ r ≡ reportNumber (caseSays report) (now (out .entry)) ⌝ }
-    ensures { λ _. ⌜ now (out .exit) ≡ reportWords (caseSays report) (now (out .entry)) ⌝ }
+    ensures { λ r. ⌜ r ≡ toldNumber (caseSays report) (now (out .entry)) ⌝ }
+    ensures { λ _. ⌜ now (out .exit) ≡ toldWords (caseSays report) (now (out .entry)) ⌝ }
 {
     match report {
         book::CaseReport::Refused(number) => number,
@@ -29,8 +29,8 @@ pub(crate) fn put_case(report: book::CaseReport, out: &mut [u64]) -> u64
 }
 
 pub(crate) fn put_segment(report: book::SegmentReport, out: &mut [u64]) -> u64
-    ensures { λ r. ⌜ r ≡ reportNumber (segmentSays report) (now (out .entry)) ⌝ }
-    ensures { λ _. ⌜ now (out .exit) ≡ reportWords (segmentSays report) (now (out .entry)) ⌝ }
+    ensures { λ r. ⌜ r ≡ toldNumber (segmentSays report) (now (out .entry)) ⌝ }
+    ensures { λ _. ⌜ now (out .exit) ≡ toldWords (segmentSays report) (now (out .entry)) ⌝ }
 {
     match report {
         book::SegmentReport::Refused(number) => number,
@@ -50,8 +50,8 @@ pub(crate) fn put_segment(report: book::SegmentReport, out: &mut [u64]) -> u64
 }
 
 pub(crate) fn put_runs(report: book::RunReport, out: &mut [u64]) -> u64
-    ensures { λ r. ⌜ r ≡ reportNumber (runSays report) (now (out .entry)) ⌝ }
-    ensures { λ _. ⌜ now (out .exit) ≡ reportWords (runSays report) (now (out .entry)) ⌝ }
+    ensures { λ r. ⌜ r ≡ toldNumber (runSays report) (now (out .entry)) ⌝ }
+    ensures { λ _. ⌜ now (out .exit) ≡ toldWords (runSays report) (now (out .entry)) ⌝ }
 {
     match report {
         book::RunReport::Refused(number) => number,

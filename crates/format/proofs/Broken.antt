@@ -8,14 +8,15 @@ use native.Mathlib.Nat.{add-assoc}
 use lib.Dec.{ltb, eqb}
 use lib.ListN.{getD}
 use borrow.Author.Tests.{ltb-false, le-ltb, not-false}
-use Rattle.laws.specs.First.{row, orFrom, anyOf}
+use Rattle.laws.specs.First.{row, orFrom, anyOf, firstHeld}
+use Rattle.laws.specs.Lists.{table}
 use Rattle.laws.specs.BigEndian.{byteAt, u16At}
-use Rattle.laws.specs.Search.{firstHeld}
 use Rattle.laws.proofs.Search.{held}
 use Rattle.laws.proofs.Tests.{or-left, or-right, anyOf-false, anyOf-none, front-false, both-false}
 use Rattle.format.specs.Network.{headBad, headTests, segmentBad, segmentTests, fieldThenSpeed}
 use Rattle.format.specs.File.{hasMark, headOf, headPadding, headNumber, recordStart, segmentOn, recordPadding, recordNumber}
-use Rattle.format.specs.Place.{notZero, markRules, headZeros, headRules, recordZeros, recordRules}
+use Rattle.format.specs.Place.{headRules, recordRules}
+use Rattle.format.specs.Placed.{markRules}
 
 -- ---- of five rows, which applied
 
@@ -56,6 +57,15 @@ unfolding anyOf orFrom
 three s t u p q r = rw (p, q, r) refl
 
 module _ (b : List ℕ) where
+  abbrev notZero : ℕ → Bool
+  notZero at = ltb 0 (byteAt b at)
+
+  abbrev headZeros : List Bool
+  headZeros = notZero 11 ∷ notZero 14 ∷ notZero 15 ∷ []
+
+  abbrev recordZeros : ℕ → List Bool
+  recordZeros i = let at = recordStart (headOf b) i in notZero (at + 7) ∷ notZero (at + 14) ∷ notZero (at + 15) ∷ []
+
   zero-pair : (at : ℕ) → ltb 0 (byteAt b at) ≡ false → ltb 0 (byteAt b (at + 1)) ≡ false → ltb 0 (u16At b at) ≡ false
   zero-pair at e f =
       let x : byteAt b at ≤ 0 = ltb-false 0 (byteAt b at) e in
@@ -63,20 +73,21 @@ module _ (b : List ℕ) where
       le-ltb 0 (u16At b at) (omega (arith, x, y))
 
   mark-kept : anyOf (markRules b) ≡ false → hasMark b ≡ true
+  unfolding table
   mark-kept q = let each = anyOf-false (markRules b) q in and-kept (eqb (byteAt b 0) 70) (eqb (byteAt b 1) 87) (eqb (byteAt b 2) 78) (each 0) (each 1) (each 2)
 
   head-kept : anyOf (headRules b) ≡ false → (headBad (headOf b) || headPadding b) ≡ false
   unfolding headBad
   head-kept q =
       let each = anyOf-false (headRules b) q in
-      or-kept _ _ _ (anyOf-none (headTests (headOf b)) (front-false (headTests (headOf b)) (headZeros b) each)) (each 7) (zero-pair 14 (each 8) (each 9))
+      or-kept _ _ _ (anyOf-none (headTests (headOf b)) (front-false (headTests (headOf b)) headZeros each)) (each 7) (zero-pair 14 (each 8) (each 9))
 
   pub record-kept : (i : ℕ) → anyOf (recordRules b i) ≡ false → (segmentBad (headOf b) i (segmentOn b i) || recordPadding b (recordStart (headOf b) i)) ≡ false
   unfolding segmentBad
   record-kept i q =
       let each = anyOf-false (recordRules b i) q in
       let tests = segmentTests (headOf b) i (segmentOn b i) in
-      or-kept _ _ _ (anyOf-none tests (front-false tests (recordZeros b i) each)) (each 12) (zero-pair (recordStart (headOf b) i + 14) (each 13) (ap (notZero b) (add-assoc (recordStart (headOf b) i) 14 1) ∙ each 14))
+      or-kept _ _ _ (anyOf-none tests (front-false tests (recordZeros i) each)) (each 12) (zero-pair (recordStart (headOf b) i + 14) (each 13) (ap notZero (add-assoc (recordStart (headOf b) i) 14 1) ∙ each 14))
 
   -- and a row that does not refuse has its rules kept
   pub record-passed : (i : ℕ) → (segmentBad (headOf b) i (segmentOn b i) || recordPadding b (recordStart (headOf b) i)) ≡ false → anyOf (recordRules b i) ≡ false
@@ -84,12 +95,12 @@ module _ (b : List ℕ) where
   record-passed i e =
       let at = recordStart (headOf b) i in
       let tests = segmentTests (headOf b) i (segmentOn b i) in
-      let padding : (notZero b (at + 7) || ltb 0 (u16At b (at + 14))) ≡ false = or-right (anyOf tests) _ e in
-      let pair : u16At b (at + 14) ≤ 0 = ltb-false 0 (u16At b (at + 14)) (or-right (notZero b (at + 7)) _ padding) in
+      let padding : (notZero (at + 7) || ltb 0 (u16At b (at + 14))) ≡ false = or-right (anyOf tests) _ e in
+      let pair : u16At b (at + 14) ≤ 0 = ltb-false 0 (u16At b (at + 14)) (or-right (notZero (at + 7)) _ padding) in
       let next : byteAt b (at + 14 + 1) ≡ byteAt b (at + 15) = ap (byteAt b) (add-assoc at 14 1) in
-      let high : notZero b (at + 14) ≡ false = le-ltb 0 (byteAt b (at + 14)) (omega (arith, pair)) in
-      let low : notZero b (at + 15) ≡ false = le-ltb 0 (byteAt b (at + 15)) (omega (arith, pair, next)) in
-      both-false tests (recordZeros b i) (or-left (anyOf tests) _ e) (three _ _ _ (or-left (notZero b (at + 7)) _ padding) high low)
+      let high : notZero (at + 14) ≡ false = le-ltb 0 (byteAt b (at + 14)) (omega (arith, pair)) in
+      let low : notZero (at + 15) ≡ false = le-ltb 0 (byteAt b (at + 15)) (omega (arith, pair, next)) in
+      both-false tests (recordZeros i) (or-left (anyOf tests) _ e) (three _ _ _ (or-left (notZero (at + 7)) _ padding) high low)
 
   -- ---- so the first rule that is found is broken
 

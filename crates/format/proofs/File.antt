@@ -16,7 +16,7 @@ use Rattle.laws.proofs.Tests.{or-left, or-right}
 use Rattle.laws.proofs.First.{row-passed, row-later, row-skipped, first-some, first-zero, first-zero-left, first-zero-right, firstOf-zero, firstOf-all}
 use Rattle.format.specs.Network.{networkFrom, entryOf, segmentOf, headBad, fieldThenSpeed, segmentNumber, rowsNumber}
 use Rattle.format.proofs.Accepted.{networkNumber, RowsWithin, Sized}
-use Rattle.format.specs.File.{hasMark, versionOf, headOf, headPadding, headNumber, curveIn, curvesNumber, recordStart, segmentAt, recordPadding, recordNumber, recordsNumber, fileNumber, entryOn, segmentOn, networkOf}
+use Rattle.format.specs.File.{hasMark, headOf, headPadding, headNumber, curveIn, curvesNumber, recordStart, segmentAt, recordPadding, recordNumber, recordsNumber, fileNumber, entryOn, segmentOn, networkOf}
 use Rattle.format.proofs.Rows.{head-within, rows-within}
 use Rattle.format.proofs.From.{from-number}
 
@@ -25,7 +25,7 @@ use Rattle.format.proofs.From.{from-number}
 pub record HeadAccepted (b : List ℕ) : Type 0 where
   pub long : 16 ≤ length b
   pub marked : hasMark b ≡ true
-  pub version : versionOf b ≡ 1
+  pub version : u16At b 3 ≡ 1
   pub fields : headBad (headOf b) ≡ false
   pub padding : headPadding b ≡ false
   pub sized : Sized b (headOf b)

@@ -11,7 +11,7 @@ use Rattle.laws.proofs.Lists.{length-table, getD-table, length-parts, parts-at,
 use Rattle.format.specs.declared.Head.{Head}
 use Rattle.format.specs.declared.Segment.{Segment}
 use Rattle.format.specs.Network.{Network, networkFrom, entryOf, segmentOf}
-use Rattle.format.specs.Words.{segmentWord, headIn, entryIn, segmentIn, networkIn, headWords, segmentWords, keptWords}
+use Rattle.format.specs.Words.{headIn, entryIn, segmentIn, networkIn, headWords, segmentWords, keptWords}
 use Rattle.format.proofs.Accepted.{Formed}
 use Rattle.format.proofs.From.{from-held}
 
@@ -24,6 +24,9 @@ unfolding segmentWords
 length-segment-words s = refl
 
 -- a segment is read in the 16 words that it fills
+abbrev segmentWord : ℕ → ℕ
+segmentWord i = 1624 + 16 * i
+
 segment-part : (ws : List ℕ) (i : ℕ) (s : Segment) → part (segmentWord i) 16 ws ≡ segmentWords s → segmentIn ws i ≡ s
 unfolding segmentIn segmentWords
 segment-part ws i s e = λ j. record {

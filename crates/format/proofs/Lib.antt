@@ -8,6 +8,7 @@ pub mod Kept
 pub mod KeptFile
 pub mod Marked
 pub mod Numbers
+pub mod PlaceParts
 pub mod Placed
 pub mod Reading
 pub mod RoundTrip

@@ -77,3 +77,10 @@ parts (suc x) y z p q r =
 pub file-parts : (b : List ℕ) → Parts (headNumber b) (curvesNumber b) (recordsNumber b) (fileNumber b)
 unfolding fileNumber
 file-parts b = parts _ _ _ (head-numbers b) (curve-numbers b) (record-numbers b)
+
+widen : {lo hi x : ℕ} → 1 ≤ lo → hi ≤ 8 → Within lo hi x → Within 1 8 x
+widen l h w = record { low = λ n. omega (arith, l, w .low n); high = omega (arith, h, w .high) }
+
+pub number-most : (b : List ℕ) → fileNumber b ≤ 8
+unfolding fileNumber
+number-most b = first-within _ _ (widen (omega arith) (omega arith) (head-numbers b)) (first-within _ _ (widen (omega arith) (omega arith) (curve-numbers b)) (widen (omega arith) (omega arith) (record-numbers b))) .high

@@ -1,56 +1,55 @@
 -- The place of a refusal is right.
 use Prim.Native.Nat.{ℕ, suc, _+_, _*_, _/_, _%_, _<_, _≤_}
-use mathlib.Core.Bool.{Bool, true, false, true≢false}
+use mathlib.Core.Bool.{Bool, true, false}
 use mathlib.Core.List.{List}
 use mathlib.Core.Path.{_≡_, refl, sym, ap, _∙_}
 use native.Mathlib.Omega.{arith}
 use native.Mathlib.Nat.{suc-ne-zero}
 use native.Mathlib.Numerals.{add-one}
 use lib.Dec.{ltb}
-use borrow.Author.Tests.{ne-eqb, lt-ltb}
-use Rattle.laws.specs.First.{row, anyOf}
-use Rattle.laws.specs.Search.{firstHeld}
-use Rattle.laws.proofs.First.{row-applies, row-skipped, row-passed, row-later, firstOf-all, firstOf-found}
-use Rattle.laws.proofs.Tests.{or-left, or-right}
-use Rattle.laws.proofs.Search.{where-found, where-below}
-use Rattle.format.specs.Network.{rising, curveNumber, fieldThenSpeed}
+use borrow.Author.Tests.{ne-eqb, lt-ltb, ltb-true, ltb-false}
+use Rattle.laws.specs.First.{row, firstHeld}
+use Rattle.laws.proofs.First.{row-applies, row-skipped, firstOf-all, firstOf-found}
+use Rattle.laws.proofs.Search.{firstWhere, first-in-table, where-found, where-below}
+use Rattle.format.specs.Network.{rising, curveNumber}
 use Rattle.format.specs.File.{headOf, entryOn, curveIn, curvesNumber, recordNumber, recordsNumber, fileNumber}
 use Rattle.format.proofs.File.{head-accepted}
-use Rattle.format.specs.Place.{markRules, headRules, entryBad, badEntry, tooShort, recordBad, badRecord, recordRules, partOf, ruleOf, headOffset, offsetOf, placeOf}
-use Rattle.format.specs.Placed.{Placed}
+use Rattle.format.specs.Place.{headRules, entryBad, badEntry, badRecord, recordRules, placeOf}
+use Rattle.format.proofs.PlaceParts.{partOf, ruleOf, headOffset, offsetOf, place-parts}
+use Rattle.format.specs.declared.Place.{Place}
+use Rattle.format.specs.Placed.{Placed, markRules}
 use Rattle.format.proofs.Numbers.{file-parts}
-use Rattle.format.proofs.Broken.{mark-broken, head-broken, record-kept, record-passed, record-broken}
+use Rattle.format.proofs.Broken.{mark-broken, head-broken, record-broken}
 
 -- ---- the parts of a place, by the number
 
 module _ (b : List ℕ) where
   number-is : placeOf b .number ≡ fileNumber b
-  unfolding placeOf
-  number-is = refl
+  number-is = ap (λ (p : Place). p .number) (place-parts b)
 
   offset-two : fileNumber b ≡ 2 → placeOf b .offset ≡ firstHeld (markRules b)
-  unfolding placeOf offsetOf headOffset row
-  offset-two e = rw e refl
+  unfolding offsetOf headOffset row
+  offset-two e = ap (λ (p : Place). p .offset) (place-parts b) ∙ rw e refl
 
   rule-four : fileNumber b ≡ 4 → placeOf b .rule ≡ firstHeld (headRules b)
-  unfolding placeOf ruleOf row
-  rule-four e = rw e refl
+  unfolding ruleOf row
+  rule-four e = ap (λ (p : Place). p .rule) (place-parts b) ∙ rw e refl
 
   part-six : fileNumber b ≡ 6 → placeOf b .part ≡ badEntry b / 201
-  unfolding placeOf partOf row
-  part-six e = rw e refl
+  unfolding partOf row
+  part-six e = ap (λ (p : Place). p .part) (place-parts b) ∙ rw e refl
 
   rule-six : fileNumber b ≡ 6 → placeOf b .rule ≡ badEntry b % 201
-  unfolding placeOf ruleOf row
-  rule-six e = rw e refl
+  unfolding ruleOf row
+  rule-six e = ap (λ (p : Place). p .rule) (place-parts b) ∙ rw e refl
 
   part-later : 6 < fileNumber b → placeOf b .part ≡ badRecord b
-  unfolding placeOf partOf
-  part-later l = row-skipped _ _ _ (ne-eqb (fileNumber b) 6 (λ e. omega (arith, e, l))) ∙ row-applies _ _ _ (lt-ltb _ _ l)
+  unfolding partOf
+  part-later l = ap (λ (p : Place). p .part) (place-parts b) ∙ row-skipped _ _ _ (ne-eqb (fileNumber b) 6 (λ e. omega (arith, e, l))) ∙ row-applies _ _ _ (lt-ltb _ _ l)
 
-  rule-seven : fileNumber b ≡ 7 → placeOf b .rule ≡ firstHeld (recordRules b (placeOf b .part))
-  unfolding placeOf ruleOf row
-  rule-seven e = rw e refl
+  rule-seven : fileNumber b ≡ 7 → placeOf b .rule ≡ firstHeld (recordRules b (badRecord b))
+  unfolding partOf ruleOf row
+  rule-seven e = ap (λ (p : Place). p .rule) (place-parts b) ∙ rw e refl
 
 -- ---- row 6: where no entry is refused, no curve is
 
@@ -80,42 +79,41 @@ module _ (b : List ℕ) where
   entry-found e =
       let part = file-parts b .curves e in
       let few : headOf b .curves ≤ 8 = head-accepted b (part .0) .sized .within .curves-high in
-      where-below refusedAt (201 * headOf b .curves) 1608 (omega (arith, few)) (λ each. suc-ne-zero 5 (sym (part .1) ∙ curves-kept each))
+      rw (first-in-table refusedAt 1608) (where-below refusedAt (201 * headOf b .curves) 1608 (omega (arith, few)) (λ each. suc-ne-zero 5 (sym (part .1) ∙ curves-kept each)))
 
 -- ---- rows 7 and 8
 
 module _ (b : List ℕ) where
-  passed : (i : ℕ) → recordBad b i ≡ false → recordNumber b (headOf b) i ≡ 0
-  unfolding recordBad recordNumber fieldThenSpeed
-  passed i e = row-skipped _ _ _ (record-kept b i (or-left _ (tooShort b i) e)) ∙ row-skipped _ _ _ (or-right (anyOf (recordRules b i)) _ e)
+  abbrev refusedRecord : ℕ → Bool
+  refusedRecord i = ltb 0 (recordNumber b (headOf b) i)
 
-  refuses : (i : ℕ) → recordBad b i ≡ true → recordNumber b (headOf b) i ≡ 0 → ⊥
-  unfolding recordBad recordNumber fieldThenSpeed
-  refuses i e z =
-      let rules : anyOf (recordRules b i) ≡ false = record-passed b i (row-passed _ _ _ z) in
-      let short : tooShort b i ≡ false = row-passed _ _ _ (row-later _ _ _ z) in
-      true≢false (sym e ∙ rw (rules, short) refl)
+  passed : (i : ℕ) → refusedRecord i ≡ false → recordNumber b (headOf b) i ≡ 0
+  passed i e = omega (arith, ltb-false 0 (recordNumber b (headOf b) i) e)
+
+  bad-record : badRecord b ≡ firstWhere refusedRecord 40
+  unfolding badRecord
+  bad-record = first-in-table refusedRecord 40
 
 module _ (b : List ℕ) (later : 6 < fileNumber b) where
-  records-refused : ((i : ℕ) → i < headOf b .size → recordBad b i ≡ false) → ⊥
+  records-refused : ((i : ℕ) → i < headOf b .size → refusedRecord b i ≡ false) → ⊥
   unfolding recordsNumber
   records-refused each =
       let none = firstOf-all (recordNumber b (headOf b)) (headOf b .size) (λ i l. passed b i (each i l)) in
       omega (arith, later, sym (file-parts b .records later .1) ∙ none)
 
   -- the record that is found is one of the file's, and is refused by the file's number
-  record-below : (badRecord b < headOf b .size) × (recordBad b (badRecord b) ≡ true)
-  unfolding badRecord
+  record-below : (badRecord b < headOf b .size) × (refusedRecord b (badRecord b) ≡ true)
   record-below =
       let few : headOf b .size ≤ 40 = head-accepted b (file-parts b .records later .0) .sized .within .size-high in
-      where-below (recordBad b) (headOf b .size) 40 few records-refused
+      rw (bad-record b) (where-below (refusedRecord b) (headOf b .size) 40 few records-refused)
 
   record-found : recordNumber b (headOf b) (badRecord b) ≡ fileNumber b
-  unfolding badRecord recordsNumber
+  unfolding recordsNumber
   record-found =
-      let before = where-found (recordBad b) 40 .none in
-      let none = firstOf-all (recordNumber b (headOf b)) (badRecord b) (λ i h. passed b i (before i (omega arith) h)) in
-      firstOf-found (recordNumber b (headOf b)) (headOf b .size) (badRecord b) (record-below .0) none refl (refuses b (badRecord b) (record-below .1))
+      let before = where-found (refusedRecord b) 40 .none in
+      let none = firstOf-all (recordNumber b (headOf b)) (badRecord b) (λ i h. passed b i (before i (omega arith) (rw (bad-record b) at h))) in
+      let some : recordNumber b (headOf b) (badRecord b) ≡ 0 → ⊥ = λ e. omega (arith, e, ltb-true 0 (recordNumber b (headOf b) (badRecord b)) (record-below .1)) in
+      firstOf-found (recordNumber b (headOf b)) (headOf b .size) (badRecord b) (record-below .0) none refl some
       ∙ file-parts b .records later .1
 
 -- ---- the statement
@@ -130,5 +128,5 @@ placed b =
       entry = λ e. rw (part-six b e, rule-six b e) (entry-found b e .1);
       segment = λ l. rw (part-later b l) (record-below b l .0);
       refused = λ l. rw (part-later b l) (record-found b l);
-      field = λ e. rw (rule-seven b e) (record-broken b _ (ap (recordNumber b (headOf b)) (part-later b (omega (arith, e))) ∙ record-found b (omega (arith, e)) ∙ e));
+      field = λ e. let l : 6 < fileNumber b = omega (arith, e) in rw (part-later b l, rule-seven b e) (record-broken b _ (record-found b l ∙ e));
     }

@@ -11,7 +11,7 @@ use lib.Seq.{drop-drop, drop-at}
 use borrow.Author.Tests.{le-ltb, eq-eqb}
 use Rattle.laws.specs.First.{first, firstOf}
 use Rattle.laws.specs.Lists.{part, parts}
-use Rattle.laws.specs.BigEndian.{u32At, u32Bytes}
+use Rattle.laws.specs.BigEndian.{u32At, u32Bytes, u16At}
 use Rattle.laws.proofs.First.{row-passed, row-skipped, first-zero, firstOf-all}
 use Rattle.laws.proofs.Lists.{parts-at, length-parts}
 use Rattle.laws.proofs.BigEndian.{low-byte, two-back, four-back, length-u32, u32-back, part-u32}
@@ -19,7 +19,7 @@ use Rattle.format.specs.declared.Head.{Head}
 use Rattle.format.specs.declared.Segment.{Segment}
 use Rattle.format.specs.Network.{Network, networkFrom, entryOf, segmentOf, headBad, segmentBad, fieldThenSpeed, segmentNumber}
 use Rattle.format.proofs.Accepted.{networkNumber, Formed, SegmentWithin, RowsWithin}
-use Rattle.format.specs.File.{headOf, hasMark, versionOf, headPadding, fileSize, headNumber, curveStart, entryAt, recordStart, segmentAt, recordPadding, entryOn, segmentOn, curveIn, curvesNumber, recordNumber, recordsNumber, fileNumber, networkOf}
+use Rattle.format.specs.File.{headOf, hasMark, headPadding, fileSize, headNumber, curveStart, entryAt, recordStart, segmentAt, recordPadding, entryOn, segmentOn, curveIn, curvesNumber, recordNumber, recordsNumber, fileNumber, networkOf}
 use Rattle.format.specs.Written.{headBytes, segmentBytes, fileOf}
 use Rattle.format.proofs.Rows.{rows-within, entry-high, head-passed, curves-passed, segments-passed}
 use Rattle.format.proofs.File.{segment-part, padding-part}
@@ -146,7 +146,7 @@ module _ (w : Network) (z : networkNumber w ≡ 0) where
   unfolding fileOf headBytes
   marked = refl
 
-  version : not (eqb (versionOf (fileOf w)) 1) ≡ false
+  version : not (eqb (u16At (fileOf w) 3) 1) ≡ false
   unfolding fileOf headBytes
   version = refl
 

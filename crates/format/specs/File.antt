@@ -19,22 +19,11 @@ mark = 70 ∷ 87 ∷ 78 ∷ []
 abbrev pub hasMark : List ℕ → Bool
 hasMark b = eqb (byteAt b 0) (getD mark 0 0) && eqb (byteAt b 1) (getD mark 1 0) && eqb (byteAt b 2) (getD mark 2 0)
 
--- 3–4 version
-abbrev pub versionOf : List ℕ → ℕ
-versionOf b = u16At b 3
-
 -- 5 T; 6 n; 7 curve count c; 8 τ; 9 ν; 10 κ; 12–13 δ
 abbrev pub headOf : List ℕ → Head
 headOf b =
-    record {
-      step = byteAt b 5;
-      size = byteAt b 6;
-      curves = byteAt b 7;
-      tau = byteAt b 8;
-      nu = byteAt b 9;
-      kappa = byteAt b 10;
-      delta = u16At b 12;
-    }
+    let byte = byteAt b in
+    record { step = byte 5; size = byte 6; curves = byte 7; tau = byte 8; nu = byte 9; kappa = byte 10; delta = u16At b 12 }
 
 -- 11 zero; 14–15 zero
 abbrev pub headPadding : List ℕ → Bool
@@ -61,16 +50,8 @@ recordStart h i = 16 + 804 * h .curves + 16 * i
 -- 0–1 L; 2 H; 3 curve; 4 C; 5 J; 6 origin; 8–9 X; 10–13 Q
 abbrev pub segmentAt : List ℕ → ℕ → Segment
 segmentAt b at =
-    record {
-      metres = u16At b at;
-      lanes = byteAt b (at + 2);
-      curve = byteAt b (at + 3);
-      critical = byteAt b (at + 4);
-      jam = byteAt b (at + 5);
-      origin = byteAt b (at + 6);
-      exit = u16At b (at + 8);
-      most = u32At b (at + 10);
-    }
+    let byte : ℕ → ℕ = λ k. byteAt b (at + k) in
+    record { metres = u16At b at; lanes = byte 2; curve = byte 3; critical = byte 4; jam = byte 5; origin = byte 6; exit = u16At b (at + 8); most = u32At b (at + 10) }
 
 -- 7 zero; 14–15 zero
 abbrev pub recordPadding : List ℕ → ℕ → Bool
@@ -89,12 +70,12 @@ networkOf b = networkFrom (headOf b) (entryOn b) (segmentOn b)
 
 -- ---- the table: the first row that applies, or 0
 
--- 1 under 16 bytes; 2 mark; 3 version; 4 head field; 5 length not 16 + 804c + 16n
+-- 1 under 16 bytes; 2 mark; 3 version, bytes 3–4; 4 head field; 5 length not 16 + 804c + 16n
 unfoldable pub headNumber : List ℕ → ℕ
 headNumber b =
     row (ltb (length b) 16) 1
     (row (not (hasMark b)) 2
-    (row (not (eqb (versionOf b) 1)) 3
+    (row (not (eqb (u16At b 3) 1)) 3
     (row (headBad (headOf b) || headPadding b) 4
     (row (not (eqb (length b) (fileSize (headOf b)))) 5 0))))
 

@@ -34,13 +34,8 @@ segmentOf w i = getD (w .segments) i noSegment
 -- ---- 4: T 1..60; n 1..40; c 1..8; τ 1..120; ν 0..200; κ 1..200; δ 0..1000
 abbrev pub headTests : Head → List Bool
 headTests h =
-    outside 1 (h .step) 60
-    ∷ outside 1 (h .size) 40
-    ∷ outside 1 (h .curves) 8
-    ∷ outside 1 (h .tau) 120
-    ∷ ltb 200 (h .nu)
-    ∷ outside 1 (h .kappa) 200
-    ∷ ltb 1000 (h .delta)
+    outside 1 (h .step) 60 ∷ outside 1 (h .size) 40 ∷ outside 1 (h .curves) 8 ∷ outside 1 (h .tau) 120
+    ∷ ltb 200 (h .nu) ∷ outside 1 (h .kappa) 200 ∷ ltb 1000 (h .delta)
     ∷ []
 
 unfoldable pub headBad : Head → Bool
@@ -59,18 +54,11 @@ curveNumber e = row (outside 1000 (e 0) 200000) 6 (firstOf (rising e) 200)
 -- X 0..1000, 0 at segment n; Q 1..300,000 with an origin, else 0. Segment i is counted from 0
 abbrev pub segmentTests : Head → ℕ → Segment → List Bool
 segmentTests h i s =
-    outside 100 (s .metres) 2000
-    ∷ outside 1 (s .lanes) 8
-    ∷ leb (h .curves) (s .curve)
-    ∷ ltb (s .critical) 1
-    ∷ leb (s .jam) (s .critical)
-    ∷ outside 2 (s .jam) 200
-    ∷ ltb 1 (s .origin)
-    ∷ (eqb i 0 && eqb (s .origin) 0)
-    ∷ ltb 1000 (s .exit)
-    ∷ (eqb (i + 1) (h .size) && ltb 0 (s .exit))
-    ∷ (eqb (s .origin) 0 && ltb 0 (s .most))
-    ∷ (eqb (s .origin) 1 && outside 1 (s .most) 300000)
+    outside 100 (s .metres) 2000 ∷ outside 1 (s .lanes) 8 ∷ leb (h .curves) (s .curve)
+    ∷ ltb (s .critical) 1 ∷ leb (s .jam) (s .critical) ∷ outside 2 (s .jam) 200
+    ∷ ltb 1 (s .origin) ∷ (eqb i 0 && eqb (s .origin) 0)
+    ∷ ltb 1000 (s .exit) ∷ (eqb (i + 1) (h .size) && ltb 0 (s .exit))
+    ∷ (eqb (s .origin) 0 && ltb 0 (s .most)) ∷ (eqb (s .origin) 1 && outside 1 (s .most) 300000)
     ∷ []
 
 unfoldable pub segmentBad : Head → ℕ → Segment → Bool

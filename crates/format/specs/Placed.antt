@@ -1,11 +1,18 @@
 -- What is shown of the place of a refusal: it lies in the file's own parts, and what stands there is what the row refuses.
 use Prim.Native.Nat.{ℕ, _<_}
 use mathlib.Core.Path.{_≡_}
-use mathlib.Core.Bool.{true, false}
+use mathlib.Core.Bool.{Bool, true, false, not}
+use lib.Dec.{eqb}
+use Rattle.laws.specs.Lists.{table}
+use Rattle.laws.specs.BigEndian.{byteAt}
 use mathlib.Core.List.{List}
 use lib.ListN.{getD}
-use Rattle.format.specs.File.{headOf, entryOn, recordNumber, fileNumber}
-use Rattle.format.specs.Place.{markRules, headRules, entryBad, recordRules, placeOf}
+use Rattle.format.specs.File.{mark, headOf, entryOn, recordNumber, fileNumber}
+use Rattle.format.specs.Place.{headRules, entryBad, recordRules, placeOf}
+
+-- of each byte of the mark whether another stands there
+abbrev pub markRules : List ℕ → List Bool
+markRules b = table (λ k. not (eqb (byteAt b k) (getD mark k 0))) 3
 
 pub record Placed (b : List ℕ) : Type 0 where
   -- the number is the file's, 0 where it is accepted

@@ -9,50 +9,27 @@ use Rattle.format.specs.declared.Head.{Head}
 use Rattle.format.specs.declared.Segment.{Segment}
 use Rattle.format.specs.Network.{Network, networkFrom, entryOf, segmentOf, rowsNumber}
 
--- ---- places; curves, entries and segments are counted from 0
-
 -- the words that a network takes
 abbrev pub networkWords : ℕ
 networkWords = 2560
 
--- entry j of curve k
-abbrev pub entryWord : ℕ → ℕ → ℕ
-entryWord k j = 16 + 201 * k + j
-
--- the first of the 16 words of segment i
-abbrev pub segmentWord : ℕ → ℕ
-segmentWord i = 1624 + 16 * i
-
--- ---- what the words hold
+-- ---- what the words hold; curves, entries and segments are counted from 0
 
 unfoldable pub headIn : List ℕ → Head
 headIn ws =
-    record {
-      step = getD ws 0 0;
-      size = getD ws 1 0;
-      curves = getD ws 2 0;
-      tau = getD ws 3 0;
-      nu = getD ws 4 0;
-      kappa = getD ws 5 0;
-      delta = getD ws 6 0;
-    }
+    let word : ℕ → ℕ = λ k. getD ws k 0 in
+    record { step = word 0; size = word 1; curves = word 2; tau = word 3; nu = word 4; kappa = word 5; delta = word 6 }
 
+-- entry j of curve k
 abbrev pub entryIn : List ℕ → ℕ → ℕ → ℕ
-entryIn ws k j = getD ws (entryWord k j) 0
+entryIn ws k j = getD ws (16 + 201 * k + j) 0
 
+-- segment i, 16 words from word 1,624 on
 unfoldable pub segmentIn : List ℕ → ℕ → Segment
 segmentIn ws i =
-    let at = segmentWord i in
-    record {
-      metres = getD ws at 0;
-      lanes = getD ws (at + 1) 0;
-      curve = getD ws (at + 2) 0;
-      critical = getD ws (at + 3) 0;
-      jam = getD ws (at + 4) 0;
-      origin = getD ws (at + 5) 0;
-      exit = getD ws (at + 6) 0;
-      most = getD ws (at + 7) 0;
-    }
+    let at = 1624 + 16 * i in
+    let word : ℕ → ℕ = λ k. getD ws (at + k) 0 in
+    record { metres = getD ws at 0; lanes = word 1; curve = word 2; critical = word 3; jam = word 4; origin = word 5; exit = word 6; most = word 7 }
 
 abbrev pub networkIn : List ℕ → Network
 networkIn ws = networkFrom (headIn ws) (entryIn ws) (segmentIn ws)

@@ -6,7 +6,6 @@ use lib.ListN.{getD}
 use lib.Ieee.{Float, nan}
 use Rattle.metanet.specs.declared.SignSetting.{SignSetting}
 use Rattle.metanet.specs.declared.Ramp.{Ramp}
-use Rattle.metanet.specs.declared.Flows.{Flows}
 use Rattle.metanet.specs.declared.SegmentState.{SegmentState}
 
 pub record Case : Type 0 where
@@ -39,12 +38,9 @@ plainRamp kind rate = record { kind = kind; rate = rate; target = 0; gain = 0; l
 abbrev pub openRamp : ℕ → Ramp
 openRamp most = plainRamp openKind most
 
-abbrev pub noFlows : Flows
-noFlows = record { outflow = 0; release = 0 }
-
 abbrev pub openState : ℕ → ℕ → ℕ → Float → SegmentState
 openState count queue most speed =
-    record { count = count; queue = queue; sign = darkSign; ramp = openRamp most; flows = noFlows; speed = speed }
+    record { count = count; queue = queue; sign = darkSign; ramp = openRamp most; flows = record { outflow = 0; release = 0 }; speed = speed }
 
 -- ---- state i, counted from 0
 

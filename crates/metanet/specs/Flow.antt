@@ -15,13 +15,9 @@ abbrev pub moved : ℕ → ℤ → ℕ
 moved r (pos k) = r + k
 moved r (negsuc k) = r - suc k
 
--- kept in least..Q
-abbrev pub keptIn : ℕ → ℕ → ℕ → ℕ
-keptIn least most x = max least (min x most)
-
 -- rate R becomes R + q, then kept in least..Q; least is not below 0, so what is below 0 becomes least
 unfoldable pub alineaRate : Ramp → ℕ → ℕ → ℕ → ℕ
-alineaRate r most g n = keptIn (r .least) most (moved (r .rate) (rateChange (r .gain) (r .target) g n))
+alineaRate r most g n = max (r .least) (min (moved (r .rate) (rateChange (r .gain) (r .target) g n)) most)
 
 -- ---- 2. the whole part of Q × (J × G − N) ÷ ((J − C) × G), or 0 when N ≥ J × G
 abbrev pub jamBound : ℕ → ℕ → ℕ → ℕ → ℕ → ℕ

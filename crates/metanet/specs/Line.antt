@@ -35,9 +35,7 @@ caseOf w c (i ∷ l) = caseOf w (change w c i) l
 -- ---- what a line's steps count up
 
 abbrev pub itemSteps : Item → ℕ
-itemSteps (signed i limit compliance) = 0
-itemSteps (metered i setting) = 0
-itemSteps (stepped arrivals) = 1
+itemSteps = elim [ signed i limit compliance ↦ 0 | metered i setting ↦ 0 | stepped arrivals ↦ 1 ]
 
 unfoldable pub stepsOf : Line → ℕ
 stepsOf [] = 0
@@ -45,9 +43,7 @@ stepsOf (i ∷ l) = itemSteps i + stepsOf l
 
 -- arrivals of a line are the sum of those handed to its steps
 unfoldable pub handedIn : Network → Item → ℕ
-handedIn w (signed i limit compliance) = 0
-handedIn w (metered i setting) = 0
-handedIn w (stepped arrivals) = sumOf (λ i. getD arrivals i 0) (w .head .size)
+handedIn w = elim [ signed i limit compliance ↦ 0 | metered i setting ↦ 0 | stepped arrivals ↦ sumOf (λ i. getD arrivals i 0) (w .head .size) ]
 
 unfoldable pub arrivalsOf : Network → Line → ℕ
 unfolding handedIn
@@ -56,9 +52,7 @@ arrivalsOf w (i ∷ l) = handedIn w i + arrivalsOf w l
 
 -- exits are the sum, over its steps, of all exit parts and of what leaves after segment n
 unfoldable pub letOut : Network → Case → Item → ℕ
-letOut w c (signed i limit compliance) = 0
-letOut w c (metered i setting) = 0
-letOut w c (stepped arrivals) = exitsNow (w .head) (entryOf w) (segmentOf w) (c .states)
+letOut w c = elim [ signed i limit compliance ↦ 0 | metered i setting ↦ 0 | stepped arrivals ↦ exitsNow (w .head) (entryOf w) (segmentOf w) (c .states) ]
 
 unfoldable pub exitsOf : Network → Case → Line → ℕ
 unfolding letOut change

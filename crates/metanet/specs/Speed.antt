@@ -18,18 +18,13 @@ area s = s .metres * s .lanes
 -- ---- V = e(j) − ((e(j) − e(j+1)) × (N mod G)) ÷ G with j the whole part of N ÷ G, the product being whole; V = e200 for j ≥ 200
 abbrev pub curveSpeed : (ℕ → ℕ) → ℕ → ℕ → Float
 curveSpeed e n g =
-    cond (leb 200 (n / g))
-    (real (e 200))
+    cond (leb 200 (n / g)) (real (e 200))
     (real (e (n / g)) ⊖ (real ((e (n / g) - e (n / g + 1)) * (n % g)) ⊘ real g))
-
--- the lesser of two speeds
-abbrev pub lesser : Float → Float → Float
-lesser x y = cond (lt x y) x y
 
 -- a sign is dark, or shows its speed, and V is the lesser of the two
 abbrev pub underSign : Float → Sign → Float
 underSign v Dark = v
-underSign v (Shown s) = lesser s v
+underSign v (Shown s) = cond (lt s v) s v
 
 -- ---- A = (T ÷ τ) × (V − v)
 abbrev pub relaxation : Head → Float → Float → Float

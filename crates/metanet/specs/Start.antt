@@ -30,21 +30,14 @@ handed w mvs queues = sumOf (λ i. getD mvs i 0) (w .head .size) + sumOf (λ i. 
 
 -- ---- 13 list length not n; 14 mv > J × G, speed outside 1,000..F, queue > 1,000,000 or not 0 without origin
 
-abbrev pub queueMost : ℕ
-queueMost = 1000000
-
 -- 14, of segment i, counted from 0; F is the first entry of its curve
 unfoldable pub startSegmentNumber : Segment → ℕ → ℕ → ℕ → ℕ → ℕ
 startSegmentNumber s F mv speed queue =
-    row
-    (anyOf (ltb (s .jam * area s) mv ∷ outside 1000 speed F ∷ ltb queueMost queue ∷ (eqb (s .origin) 0 && ltb 0 queue) ∷ []))
-    14 0
+    row (anyOf (ltb (s .jam * area s) mv ∷ outside 1000 speed F ∷ ltb 1000000 queue ∷ (eqb (s .origin) 0 && ltb 0 queue) ∷ [])) 14 0
 
 unfoldable pub startNumber : Network → List ℕ → List ℕ → List ℕ → ℕ
 unfolding startSegmentNumber
 startNumber w mvs speeds queues =
     let n = w .head .size in
     row (anyOf (not (eqb (length mvs) n) ∷ not (eqb (length speeds) n) ∷ not (eqb (length queues) n) ∷ [])) 13
-    (firstOf
-    (λ i. startSegmentNumber (segmentOf w i) (entryOf w (segmentOf w i .curve) 0) (getD mvs i 0) (getD speeds i 0) (getD queues i 0))
-    n)
+    (firstOf (λ i. startSegmentNumber (segmentOf w i) (entryOf w (segmentOf w i .curve) 0) (getD mvs i 0) (getD speeds i 0) (getD queues i 0)) n)

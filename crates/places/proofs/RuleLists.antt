@@ -5,8 +5,7 @@ use mathlib.Core.List.{List, [], _∷_, _++_}
 use native.Mathlib.Nat.{suc-ne-zero}
 use native.Mathlib.Numerals.{unary-clauses}
 use lib.Dec.{ltb}
-use Rattle.laws.specs.First.{outside}
-use Rattle.laws.specs.Search.{firstHeld}
+use Rattle.laws.specs.First.{outside, firstHeld}
 use Rattle.laws.specs.BigEndian.{byteAt}
 use Rattle.format.specs.declared.Head.{Head}
 use Rattle.format.specs.declared.Segment.{Segment}

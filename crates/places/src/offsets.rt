@@ -4,7 +4,7 @@ use crate::search;
 ghost use mathlib.Core.Path.{_≡_};
 ghost use Prim.Native.Nat.{_≤_};
 ghost use Rattle.format.specs.File.{headOf, fileSize};
-ghost use Rattle.format.specs.Place.{partOf, ruleOf, headOffset, offsetOf};
+ghost use Rattle.format.proofs.PlaceParts.{partOf, ruleOf, headOffset, offsetOf};
 
 // The curve (6) or the record (7, 8).
 pub(crate) fn part(file: &[u8], number: u64) -> u32

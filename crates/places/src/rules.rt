@@ -4,10 +4,11 @@ ghost use Prim.Native.Nat.{_<_, _≤_};
 ghost use mathlib.Core.List.{[], _∷_, _++_};
 ghost use lib.Dec.{ltb};
 ghost use lib.ListN.{getD};
-ghost use Rattle.laws.specs.Search.{firstHeld};
+ghost use Rattle.laws.specs.First.{firstHeld};
 ghost use Rattle.format.specs.Network.{headTests, segmentTests};
 ghost use Rattle.format.specs.File.{headOf, recordStart};
-ghost use Rattle.format.specs.Place.{markRules, headRules, headFields, recordRules, recordFields};
+ghost use Rattle.format.specs.Placed.{markRules};
+ghost use Rattle.format.specs.Place.{headRules, headFields, recordRules, recordFields};
 
 // The place of the first test that holds, and their number where none does.
 pub(crate) fn first_held(tests: &[bool]) -> u64

@@ -2,8 +2,10 @@
 use crate::rules;
 ghost use mathlib.Core.Path.{_≡_};
 ghost use Prim.Native.Nat.{_≤_};
-ghost use Rattle.format.specs.File.{entryOn};
-ghost use Rattle.format.specs.Place.{entryBad, badEntry, tooShort, recordBad, badRecord};
+ghost use lib.Dec.{ltb};
+ghost use Rattle.format.specs.File.{headOf, entryOn, recordNumber};
+ghost use Rattle.format.specs.Place.{entryBad, badEntry, badRecord};
+ghost use Rattle.format.proofs.PlaceParts.{tooShort};
 
 // Row 6, of entry j of curve k.
 fn entry_bad(file: &[u8], k: u32, j: u32) -> bool
@@ -45,7 +47,7 @@ fn too_short(file: &[u8], i: u32) -> bool
 // Rows 7 and 8, of record i.
 fn record_bad(file: &[u8], i: u32) -> bool
     requires { ⌜ i ≤ 40 ⌝ }
-    ensures { λ r. ⌜ r ≡ recordBad (now (file .entry)) i ⌝ }
+    ensures { λ r. ⌜ r ≡ ltb 0 (recordNumber (now (file .entry)) (headOf (now (file .entry))) i) ⌝ }
 {
     if rules::record_rule(file, i) < 15 {
         return true;

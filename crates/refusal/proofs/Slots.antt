@@ -9,16 +9,17 @@ use lib.Ieee.{Float}
 use borrow.Author.Tests.{le-leb, eq-eqb, ne-eqb}
 use Rattle.laws.proofs.First.{row-applies, row-skipped, row-passed}
 use Rattle.laws.proofs.Tests.{inside-low, inside-high}
-use Rattle.book.specs.Arrangement.{sizeAt, markAt, filledAt}
+use Rattle.book.specs.Arrangement.{slots, sizeAt, markAt, filledAt}
 use Rattle.book.specs.Sound.{sound}
 use Rattle.book.specs.Calls.{hold, recall, dropSlot}
-use Rattle.book.specs.Refusal.{slotMissing, refusal, slotRefusal}
+use Rattle.book.specs.Refusal.{refusal, slotRefusal}
 use Rattle.book.specs.Perform.{Arrays, refusalAt, copiedWords, copiedSpeeds, answerOf, lent, Performs, stored}
 use Rattle.book.proofs.Laid.{Laid}
 use Rattle.book.proofs.Network.{size-word}
 use Rattle.book.proofs.Sounds.{laid}
 use Rattle.book.proofs.Performing.{judged, accepts, accepted-sound}
 use Rattle.book.specs.Question.{accepted}
+use Rattle.laws.specs.First.{outside}
 
 module _ (words : List ℕ) (speeds : List Float) (k : ℕ) where
   abbrev a : Arrays
@@ -30,15 +31,15 @@ module _ (words : List ℕ) (speeds : List Float) (k : ℕ) where
   drop-as-recall = refl
 
   module _ (s : sound words speeds ≡ true) where
-    pub hold-missing : slotMissing k ≡ true → 21 ≡ refusalAt (hold k) a
+    pub hold-missing : outside 1 k slots ≡ true → 21 ≡ refusalAt (hold k) a
     unfolding refusal
     hold-missing m = sym (judged (hold k) words speeds refl s ∙ row-applies _ _ _ m)
 
-    pub recall-missing : slotMissing k ≡ true → 21 ≡ refusalAt (recall k) a
+    pub recall-missing : outside 1 k slots ≡ true → 21 ≡ refusalAt (recall k) a
     unfolding refusal slotRefusal
     recall-missing m = sym (judged (recall k) words speeds refl s ∙ row-applies _ _ _ m)
 
-    module _ (there : slotMissing k ≡ false) where
+    module _ (there : outside 1 k slots ≡ false) where
       marked : {b : Bool} → eqb (markAt words k) 1 ≡ b → filledAt words k ≡ b
       marked e = (λ j. le-leb _ _ (inside-low 1 k 6 there) j && le-leb _ _ (inside-high 1 k 6 there) j && eqb (markAt words k) 1) ∙ e
 
@@ -65,16 +66,16 @@ module _ (words : List ℕ) (speeds : List Float) (k : ℕ) where
     pub laid : Laid words speeds (getD words 1 0)
     pub high : k ≤ 6
 
-  slot-at : sound words speeds ≡ true → slotMissing k ≡ false → SlotAt
+  slot-at : sound words speeds ≡ true → outside 1 k slots ≡ false → SlotAt
   slot-at s there = record { laid = subst (Laid words speeds) (size-word words) (laid words speeds s); high = inside-high 1 k 6 there }
 
   pub hold-slot : refusalAt (hold k) a ≡ 0 → SlotAt
   unfolding refusal
-  hold-slot z = let s = accepted-sound (hold k) words speeds refl z in slot-at s (row-passed (slotMissing k) _ _ (sym (judged (hold k) words speeds refl s) ∙ z))
+  hold-slot z = let s = accepted-sound (hold k) words speeds refl z in slot-at s (row-passed (outside 1 k slots) _ _ (sym (judged (hold k) words speeds refl s) ∙ z))
 
   pub recall-slot : refusalAt (recall k) a ≡ 0 → SlotAt
   unfolding refusal slotRefusal
-  recall-slot z = let s = accepted-sound (recall k) words speeds refl z in slot-at s (row-passed (slotMissing k) _ _ (sym (judged (recall k) words speeds refl s) ∙ z))
+  recall-slot z = let s = accepted-sound (recall k) words speeds refl z in slot-at s (row-passed (outside 1 k slots) _ _ (sym (judged (recall k) words speeds refl s) ∙ z))
 
   -- ---- what an accepted call leaves
 

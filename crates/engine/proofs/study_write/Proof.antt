@@ -1,18 +1,19 @@
-use mathlib.Core.Path.{ap}
+use mathlib.Core.Path.{ap, _∙_}
 use borrow.Author.Needs.{needs}
 use Rattle.engine.specs.Study.{numberOf}
+use Rattle.engine.proofs.Calling.{write-number}
 use Rattle.engine.proofs.study_write.Statement.{statement}
 use Rattle.engine.proofs.study_write.Tie as tie
 
 returns : tie.Need-returns
 returns c =
     let w = c .before .before .before .before .before in
-    (rw (c .before .number .given .1) at (ap numberOf (w .write .ensures .0)), w .write .ensures .1)
+    (rw (c .before .number .given .1) at (ap numberOf (w .write .ensures .0) ∙ write-number _ _ _), w .write .ensures .1)
 
 returns-2 : tie.Need-returns-2
 returns-2 c =
     let w = c .before .before .before .before in
-    (rw (c .enum-told .given .1) at (ap numberOf (w .write .ensures .0)), w .write .ensures .1)
+    (rw (c .enum-told .given .1) at (ap numberOf (w .write .ensures .0) ∙ write-number _ _ _), w .write .ensures .1)
 
 pub study-write-spec : {M : Type 1} → statement M
 study-write-spec =

@@ -1,5 +1,5 @@
 use borrow.Author.Needs.{needs}
-use Rattle.engine.proofs.Calling.{refused-told, figures-told}
+use Rattle.engine.proofs.Calling.{refused-told}
 use Rattle.engine.proofs.report.put_segment.Statement.{statement}
 use Rattle.engine.proofs.report.put_segment.Tie as tie
 
@@ -9,7 +9,7 @@ returns c = rw (c .before .report .given .1) (refused-told _ _)
 returns-2 : tie.Need-returns-2
 returns-2 c =
     let put = c .before .before in
-    rw (put .before .before .before .before .report2 .given .1) (figures-told _ _ (put .put-figures .ensures))
+    rw (put .before .before .before .before .report2 .given .1) (put .put-figures .ensures)
 
 pub put-segment-spec : {M : Type 1} → statement M
 put-segment-spec =

@@ -1,7 +1,7 @@
 use mathlib.Core.Path.{refl, _∙_}
 use borrow.Author.Tests.{ne-eqb}
 use Rattle.laws.specs.First.{row}
-use Rattle.format.specs.Place.{headOffset}
+use Rattle.format.proofs.PlaceParts.{headOffset}
 use borrow.Author.Needs.{needs}
 use Rattle.places.proofs.offsets.head_offset.Statement.{statement}
 use Rattle.places.proofs.offsets.head_offset.Tie as tie

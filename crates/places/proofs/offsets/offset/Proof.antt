@@ -2,7 +2,7 @@ use Prim.Native.Nat.{ℕ, _+_, _*_}
 use mathlib.Core.Path.{refl, ap, _∙_}
 use borrow.Author.Tests.{ne-eqb}
 use Rattle.laws.specs.First.{row}
-use Rattle.format.specs.Place.{offsetOf}
+use Rattle.format.proofs.PlaceParts.{offsetOf}
 use borrow.Author.Needs.{needs}
 use Rattle.places.proofs.offsets.offset.Statement.{statement}
 use Rattle.places.proofs.offsets.offset.Tie as tie

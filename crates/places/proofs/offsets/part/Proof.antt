@@ -4,7 +4,7 @@ use native.Mathlib.Omega.{arith}
 use borrow.Author.Tests.{ne-eqb, lt-ltb, le-ltb}
 use Rattle.laws.specs.First.{row}
 use Rattle.laws.proofs.First.{row-applies, row-skipped}
-use Rattle.format.specs.Place.{partOf}
+use Rattle.format.proofs.PlaceParts.{partOf}
 use borrow.Author.Needs.{needs}
 use Rattle.places.proofs.offsets.part.Statement.{statement}
 use Rattle.places.proofs.offsets.part.Tie as tie

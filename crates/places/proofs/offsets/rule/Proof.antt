@@ -2,7 +2,7 @@ use Prim.Native.Nat.{ℕ, _%_}
 use mathlib.Core.Path.{refl, ap, _∙_}
 use borrow.Author.Tests.{ne-eqb}
 use Rattle.laws.specs.First.{row}
-use Rattle.format.specs.Place.{ruleOf}
+use Rattle.format.proofs.PlaceParts.{ruleOf}
 use borrow.Author.Needs.{needs}
 use Rattle.places.proofs.offsets.rule.Statement.{statement}
 use Rattle.places.proofs.offsets.rule.Tie as tie

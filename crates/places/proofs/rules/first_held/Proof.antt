@@ -1,9 +1,10 @@
 -- A search of the tests that are left finds the same.
 use Prim.Native.Nat.{_-_}
 use mathlib.Core.Bool.{false}
+use mathlib.Core.Path.{sym, _∙_}
 use lib.ListN.{length, getD}
 use borrow.Author.Needs.{needs}
-use Rattle.laws.proofs.Search.{Searching, search-begun, search-found, search-passed, search-end}
+use Rattle.laws.proofs.Search.{first-held, Searching, search-begun, search-found, search-passed, search-end}
 use Rattle.places.proofs.rules.first_held.Statement.{statement}
 use Rattle.places.proofs.rules.first_held.Tie as tie
 
@@ -16,7 +17,7 @@ abbrev μ-loop : tie.MeasureT-loop
 returns : tie.Need-returns Inv-loop μ-loop
 returns c =
     let l = c .before .before .before .loop in
-    search-found _ (l .inv) (c .before .before .loop-test .taken) (c .if1 .taken)
+    search-found _ (l .inv) (c .before .before .loop-test .taken) (c .if1 .taken) ∙ sym (first-held _)
 
 loop-again : tie.Need-loop-again Inv-loop μ-loop
 loop-again c =
@@ -24,7 +25,7 @@ loop-again c =
     search-passed _ (l .inv) (c .before .before .loop-test .taken) (c .if1 .left)
 
 returns-2 : tie.Need-returns-2 Inv-loop μ-loop
-returns-2 c = search-end _ (c .before .loop .inv) (c .loop-test .left)
+returns-2 c = search-end _ (c .before .loop .inv) (c .loop-test .left) ∙ sym (first-held _)
 
 pub first-held-spec : {M : Type 1} → statement M
 first-held-spec =

@@ -1,6 +1,6 @@
 use denote.Ref.{now}
 use mathlib.Core.Path.{ap, _∙_}
-use Rattle.laws.specs.Search.{firstHeld}
+use Rattle.laws.specs.First.{firstHeld}
 use Rattle.places.proofs.RuleLists.{head-read}
 use borrow.Author.Needs.{needs}
 use Rattle.places.proofs.rules.head_rule.Statement.{statement}

@@ -3,7 +3,7 @@ use Prim.Native.Nat.{_-_, _/_, _%_}
 use mathlib.Core.Path.{sym, _∙_}
 use native.Mathlib.Omega.{arith}
 use borrow.Author.Needs.{needs}
-use Rattle.laws.proofs.Search.{Searching, search-begun, search-found, search-passed, search-end}
+use Rattle.laws.proofs.Search.{first-in-table, Searching, search-begun, search-found, search-passed, search-end}
 use Rattle.format.specs.File.{entryOn}
 use Rattle.format.specs.Place.{entryBad, badEntry}
 use Rattle.places.proofs.search.bad_entry.Statement.{statement}
@@ -20,7 +20,7 @@ unfolding badEntry
 returns c =
     let l = c .before .before .before .loop in
     let more = c .before .before .loop-test .taken in
-    (search-found _ (l .inv) more (sym (c .before .entry-bad .ensures) ∙ c .if1 .taken), omega (arith, more))
+    (search-found _ (l .inv) more (sym (c .before .entry-bad .ensures) ∙ c .if1 .taken) ∙ sym (first-in-table _ 1608), omega (arith, more))
 
 loop-again : tie.Need-loop-again Inv-loop μ-loop
 loop-again c =
@@ -29,7 +29,7 @@ loop-again c =
 
 returns-2 : tie.Need-returns-2 Inv-loop μ-loop
 unfolding badEntry
-returns-2 c = let s = c .before .loop .inv in (search-end _ s (c .loop-test .left), omega (arith, s .sum))
+returns-2 c = let s = c .before .loop .inv in (search-end _ s (c .loop-test .left) ∙ sym (first-in-table _ 1608), omega (arith, s .sum))
 
 pub bad-entry-spec : {M : Type 1} → statement M
 bad-entry-spec =

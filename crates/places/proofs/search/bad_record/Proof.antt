@@ -3,13 +3,15 @@ use Prim.Native.Nat.{_-_}
 use mathlib.Core.Path.{sym, _∙_}
 use native.Mathlib.Omega.{arith}
 use borrow.Author.Needs.{needs}
-use Rattle.laws.proofs.Search.{Searching, search-begun, search-found, search-passed, search-end}
-use Rattle.format.specs.Place.{recordBad, badRecord}
+use lib.Dec.{ltb}
+use Rattle.laws.proofs.Search.{first-in-table, Searching, search-begun, search-found, search-passed, search-end}
+use Rattle.format.specs.File.{headOf, recordNumber}
+use Rattle.format.specs.Place.{badRecord}
 use Rattle.places.proofs.search.bad_record.Statement.{statement}
 use Rattle.places.proofs.search.bad_record.Tie as tie
 
 abbrev Inv-loop : tie.InvT-loop
-Inv-loop file i₀ i = Searching (recordBad file) 40 i
+Inv-loop file i₀ i = Searching (λ j. ltb 0 (recordNumber file (headOf file) j)) 40 i
 
 abbrev μ-loop : tie.MeasureT-loop
 μ-loop file i₀ i = 40 - i
@@ -19,7 +21,7 @@ unfolding badRecord
 returns c =
     let l = c .before .before .before .loop in
     let more = c .before .before .loop-test .taken in
-    (search-found _ (l .inv) more (sym (c .before .record-bad .ensures) ∙ c .if1 .taken), omega (arith, more))
+    (search-found _ (l .inv) more (sym (c .before .record-bad .ensures) ∙ c .if1 .taken) ∙ sym (first-in-table _ 40), omega (arith, more))
 
 loop-again : tie.Need-loop-again Inv-loop μ-loop
 loop-again c =
@@ -28,7 +30,7 @@ loop-again c =
 
 returns-2 : tie.Need-returns-2 Inv-loop μ-loop
 unfolding badRecord
-returns-2 c = let s = c .before .loop .inv in (search-end _ s (c .loop-test .left), omega (arith, s .sum))
+returns-2 c = let s = c .before .loop .inv in (search-end _ s (c .loop-test .left) ∙ sym (first-in-table _ 40), omega (arith, s .sum))
 
 pub bad-record-spec : {M : Type 1} → statement M
 bad-record-spec =

@@ -67,7 +67,8 @@ caseIn words speeds at from n =
       time = getD words (at + 16 * n + 3) 0;
     }
 
--- ---- a case of n segments, put into the words and speeds; the free words and all else stay
+-- ---- a case of n segments, put in: its states and the four totals from place at on, its speeds from place from on; the free words and all
+-- else stay
 
 unfoldable pub putCase : ℕ → ℕ → Case → List ℕ → List ℕ
 unfolding putState parts

@@ -13,8 +13,6 @@ use Rattle.laws.proofs.First.{row-applies, row-skipped, row-passed, row-later, 
 use Rattle.laws.proofs.Tests.{inside-low, inside-high}
 use Rattle.format.specs.declared.Head.{Head}
 use Rattle.metanet.specs.Words.{netOf}
-use Rattle.book.specs.declared.CaseReport.the-variants as caseReport
-use Rattle.book.specs.declared.SegmentReport.the-variants as segmentReport
 use Rattle.book.specs.Arrangement.{networkAt, markAt, filledAt}
 use Rattle.book.specs.Sound.{sound}
 use Rattle.book.proofs.Laid.{Laid}

@@ -1,8 +1,9 @@
 -- Demand 3, of every list of calls that begins with an accepted Start, on arrays of any content.
-use Prim.Native.Nat.{ℕ, _≤_}
-use mathlib.Core.Path.{_≡_, refl, sym, _∙_}
+use Prim.Native.Nat.{ℕ, zero, suc, _≤_}
+use mathlib.Core.Path.{ap, _≡_, refl, sym, _∙_}
 use mathlib.Core.Bool.{Bool, true, _&&_, not}
 use mathlib.Core.List.{List, [], _∷_, _++_, append-nil}
+use mathlib.Core.Option.{some}
 use lib.Dec.{ltb}
 use borrow.Author.Tests.{ltb-false, not-true}
 use lib.ListN.{length}
@@ -17,7 +18,7 @@ use Rattle.metanet.specs.Start.{startCase, handed}
 use Rattle.book.specs.Refusal.{refusal}
 use Rattle.book.specs.Perform.{Arrays, unless, groundsAt, refusalAt, answerOf, perform, answers, after, taken, stored}
 use Rattle.metanet.specs.Line.{Line}
-use Rattle.book.specs.Book.{Book, started, entered, groundsIn, enter}
+use Rattle.book.specs.Book.{Book, started, entered, groundsIn, enter, lineAt, lineIn}
 use Rattle.book.specs.Claim.{Balanced, Since, Demand3}
 use Rattle.book.proofs.Rel.{Kept, Rel}
 use Rattle.book.proofs.Views.{filled-view, sound-view, refusal-view}
@@ -109,15 +110,21 @@ begun-total s =
     ∙ start-total (networkOf (s .file)) (s .mvs) (s .speeds) (s .queues)
     ∙ sym (λ i. handed (s .network i) (s .mvs) (s .queues))
 
-balance : {h : List Call} {z : Arrays} {b : Book} (s : Since h b) (k : ℕ) (l : Line) → Kept z b k l
+balanced : {h : List Call} {z : Arrays} {b : Book} (s : Since h b) (k : ℕ) (l : Line) → Kept z b k l
     → Balanced (b .network) (b .begun) (handed (b .network) (s .mvs) (s .queues)) l (caseAt (z .words) (z .speeds) k)
-balance s k l K =
+balanced s k l K =
     rw (K .is)
     (record {
       arrivals = K .good .arrivals-are;
       exits = K .good .exits-are;
       vehicles = rw (← (begun-total s)) (K .good .balance);
     })
+
+-- ---- the live line and those held
+
+kept-at : {words speeds : ℕ} {z : Arrays} {b : Book} → Rel words speeds z b → (k : ℕ) (l : Line) → lineAt b k ≡ some l → Kept z b k l
+kept-at {b = b} r zero l e = let p : b .live ≡ l = ap lineIn e in rw (← p) (r .live)
+kept-at r (suc k) l e = r .slots (suc k) l e
 
 -- ---- demand 3
 
@@ -137,13 +144,11 @@ demand-3 file mvs initial queues cs a b e =
     (record {
       same-answers = λ i. begin-answer file mvs initial queues a e i ∷ list-answers words speeds cs z₀ b₀ r₀ i;
       network = r .network;
-      live = r .live .is;
-      held = λ k l h. r .slots k l h .is;
+      cases = λ k l h. kept-at r k l h .is;
       marks = filled-view r;
       runs = r .runs;
       since = s;
-      live-balance = balance s 0 _ (r .live);
-      held-balance = λ k l h. balance s k l (r .slots k l h);
+      balance = λ k l h. balanced s k l (kept-at r k l h);
       is-sound = sound-view r;
       words-long = r .words-long;
       speeds-long = r .speeds-long;

@@ -22,7 +22,7 @@ use Rattle.book.specs.Calls.{Call, isStart}
 use Rattle.book.specs.Refusal.{refusal}
 use Rattle.book.specs.Perform.{Arrays, groundsAt, refusalAt}
 use Rattle.metanet.specs.Line.{Line, caseOf}
-use Rattle.book.specs.Book.{Book, isFilled, lineAt, groundsIn}
+use Rattle.book.specs.Book.{Book, isFilled, lineAt, groundsIn, lineIn}
 use Rattle.book.proofs.Rel.{markOf, Kept, Rel}
 
 -- ---- lines in slots
@@ -121,7 +121,7 @@ module _ {words speeds : ℕ} {a : Arrays} {b : Book} (r : Rel words speeds a b)
 
   -- ---- the case that a report may ask for
   pub asked-view : (k : ℕ) → (eqb k 0 || isFilled (b .slot k)) ≡ true
-      → caseAt (a .words) (a .speeds) k ≡ caseOf (b .network) (b .begun) (lineAt b k)
+      → caseAt (a .words) (a .speeds) k ≡ caseOf (b .network) (b .begun) (lineIn (lineAt b k))
   asked-view zero e = r .live .is
   asked-view (suc k) e =
       let f : isFilled (b .slot (suc k)) ≡ true = rw (ne-eqb (suc k) 0 (λ z. omega (arith, z))) at e in

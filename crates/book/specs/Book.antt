@@ -22,20 +22,18 @@ pub record Book : Type 0 where
   pub runs : ℕ
 
 abbrev pub isFilled : Option Line → Bool
-isFilled none = false
-isFilled (some l) = true
+isFilled = elim [ none ↦ false | some l ↦ true ]
 
 abbrev pub lineIn : Option Line → Line
-lineIn none = []
-lineIn (some l) = l
+lineIn = elim [ none ↦ [] | some l ↦ l ]
 
--- the case of the line asked for: 0 is the live one
-abbrev pub lineAt : Book → ℕ → Line
-lineAt b zero = b .live
-lineAt b (suc k) = lineIn (b .slot (suc k))
+-- the line asked for: 0 is the live one
+abbrev pub lineAt : Book → ℕ → Option Line
+lineAt b zero = some (b .live)
+lineAt b (suc k) = b .slot (suc k)
 
 abbrev pub bookCase : Book → ℕ → Case
-bookCase b k = caseOf (b .network) (b .begun) (lineAt b k)
+bookCase b k = caseOf (b .network) (b .begun) (lineIn (lineAt b k))
 
 -- ---- what an accepted call makes of the book
 

@@ -15,7 +15,6 @@ pub data Call : Type 0 where
   start : List ℕ → List ℕ → List ℕ → List ℕ → Call
   -- Sign, Meter or Step
   item : Item → Call
-  -- slot
   hold : ℕ → Call
   recall : ℕ → Call
   dropSlot : ℕ → Call

@@ -16,13 +16,11 @@ use Rattle.book.specs.Sound.{sound}
 use Rattle.book.specs.Question.{Answer, accepted}
 use Rattle.book.specs.Calls.{Call, start, stepsIn, heldIn, isStart, noCall, bringsOver}
 use Rattle.book.specs.Perform.{Arrays, refusalAt, Performs, after, answers, taken, Outcome, perform}
-use Rattle.book.specs.Book.{Book, isFilled, enter}
+use Rattle.book.specs.Book.{Book, isFilled, enter, lineAt}
 
 -- ---- the vehicles of the case c of the line l, from the start case begun with v mv handed to Start
 pub record Balanced (w : Network) (begun : Case) (v : ℕ) (l : Line) (c : Case) : Type 0 where
-  -- arrivals of a line are the sum of those handed to its steps
   pub arrivals : c .arrivals ≡ arrivalsOf w l
-  -- exits are the sum, over its steps, of all exit parts and of what leaves after segment n
   pub exits : c .exits ≡ exitsOf w begun l
   -- vehicles at the start are the mv and queues handed to Start; with the arrivals they are in segments, in queues or among the exits
   pub vehicles : totalOf w c + exitsOf w begun l ≡ v + arrivalsOf w l
@@ -52,15 +50,13 @@ pub record Holds (a : Arrays) (xs : List Answer) (z : Arrays) (h : List Call) (y
   -- the stored network, the live case and each held case are what the book's lines give; a case is a state for each segment (N, bits of v,
   -- w, sign, setting, R, last outflow and last release) and steps, arrivals, exits and time
   pub network : networkAt (z .words) ≡ b .network
-  pub live : caseAt (z .words) (z .speeds) 0 ≡ caseOf (b .network) (b .begun) (b .live)
-  pub held : (k : ℕ) (l : Line) → b .slot k ≡ some l → caseAt (z .words) (z .speeds) k ≡ caseOf (b .network) (b .begun) l
+  pub cases : (k : ℕ) (l : Line) → lineAt b k ≡ some l → caseAt (z .words) (z .speeds) k ≡ caseOf (b .network) (b .begun) l
   pub marks : (k : ℕ) → filledAt (z .words) k ≡ isFilled (b .slot k)
   pub runs : runCountAt (z .words) ≡ b .runs
   -- the last accepted Start, and what was accepted since
   pub since : Since h b
   -- arrivals, exits and vehicles of the live and each held line
-  pub live-balance : Balanced (b .network) (b .begun) (handed (b .network) (since .mvs) (since .queues)) (b .live) (caseAt (z .words) (z .speeds) 0)
-  pub held-balance : (k : ℕ) (l : Line) → b .slot k ≡ some l
+  pub balance : (k : ℕ) (l : Line) → lineAt b k ≡ some l
       → Balanced (b .network) (b .begun) (handed (b .network) (since .mvs) (since .queues)) l (caseAt (z .words) (z .speeds) k)
   -- the study is sound; lengths are unchanged; words and speeds past the stated lengths are untouched
   pub is-sound : sound (z .words) (z .speeds) ≡ true

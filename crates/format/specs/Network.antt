@@ -35,8 +35,7 @@ segmentOf w i = getD (w .segments) i noSegment
 abbrev pub headTests : Head → List Bool
 headTests h =
     outside 1 (h .step) 60 ∷ outside 1 (h .size) 40 ∷ outside 1 (h .curves) 8 ∷ outside 1 (h .tau) 120
-    ∷ ltb 200 (h .nu) ∷ outside 1 (h .kappa) 200 ∷ ltb 1000 (h .delta)
-    ∷ []
+    ∷ ltb 200 (h .nu) ∷ outside 1 (h .kappa) 200 ∷ ltb 1000 (h .delta) ∷ []
 
 unfoldable pub headBad : Head → Bool
 headBad h = anyOf (headTests h)
@@ -58,8 +57,7 @@ segmentTests h i s =
     ∷ ltb (s .critical) 1 ∷ leb (s .jam) (s .critical) ∷ outside 2 (s .jam) 200
     ∷ ltb 1 (s .origin) ∷ (eqb i 0 && eqb (s .origin) 0)
     ∷ ltb 1000 (s .exit) ∷ (eqb (i + 1) (h .size) && ltb 0 (s .exit))
-    ∷ (eqb (s .origin) 0 && ltb 0 (s .most)) ∷ (eqb (s .origin) 1 && outside 1 (s .most) 300000)
-    ∷ []
+    ∷ (eqb (s .origin) 0 && ltb 0 (s .most)) ∷ (eqb (s .origin) 1 && outside 1 (s .most) 300000) ∷ []
 
 unfoldable pub segmentBad : Head → ℕ → Segment → Bool
 segmentBad h i s = anyOf (segmentTests h i s)

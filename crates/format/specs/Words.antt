@@ -42,15 +42,11 @@ keptNumber ws = row (ltb (length ws) networkWords) 11 (rowsNumber (headIn ws) (e
 
 -- the head's 16 words; those that are free are 0
 unfoldable pub headWords : Head → List ℕ
-headWords h =
-    h .step ∷ h .size ∷ h .curves ∷ h .tau ∷ h .nu ∷ h .kappa ∷ h .delta
-    ∷ replicate 9 0
+headWords h = h .step ∷ h .size ∷ h .curves ∷ h .tau ∷ h .nu ∷ h .kappa ∷ h .delta ∷ replicate 9 0
 
 -- a segment's 16 words
 unfoldable pub segmentWords : Segment → List ℕ
-segmentWords s =
-    s .metres ∷ s .lanes ∷ s .curve ∷ s .critical ∷ s .jam ∷ s .origin ∷ s .exit ∷ s .most
-    ∷ replicate 8 0
+segmentWords s = s .metres ∷ s .lanes ∷ s .curve ∷ s .critical ∷ s .jam ∷ s .origin ∷ s .exit ∷ s .most ∷ replicate 8 0
 
 -- head; then c curves, each 201 entries, and 0 up to word 1,624; then n segments, and 0 up to word 2,560
 unfoldable pub keptWords : Network → List ℕ

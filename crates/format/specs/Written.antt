@@ -13,23 +13,15 @@ use Rattle.format.specs.File.{mark, networkOf, fileNumber}
 -- the mark is written back
 unfoldable pub headBytes : Head → List ℕ
 headBytes h =
-    getD mark 0 0 ∷ getD mark 1 0 ∷ getD mark 2 0
-    ∷ 0 ∷ 1
-    ∷ low (h .step) ∷ low (h .size) ∷ low (h .curves) ∷ low (h .tau) ∷ low (h .nu) ∷ low (h .kappa)
-    ∷ 0
-    ∷ low (h .delta / 256) ∷ low (h .delta)
-    ∷ 0 ∷ 0
-    ∷ []
+    getD mark 0 0 ∷ getD mark 1 0 ∷ getD mark 2 0 ∷ 0 ∷ 1
+    ∷ low (h .step) ∷ low (h .size) ∷ low (h .curves) ∷ low (h .tau) ∷ low (h .nu) ∷ low (h .kappa) ∷ 0
+    ∷ low (h .delta / 256) ∷ low (h .delta) ∷ 0 ∷ 0 ∷ []
 
 unfoldable pub segmentBytes : Segment → List ℕ
 segmentBytes s =
-    low (s .metres / 256) ∷ low (s .metres)
-    ∷ low (s .lanes) ∷ low (s .curve) ∷ low (s .critical) ∷ low (s .jam) ∷ low (s .origin)
-    ∷ 0
+    low (s .metres / 256) ∷ low (s .metres) ∷ low (s .lanes) ∷ low (s .curve) ∷ low (s .critical) ∷ low (s .jam) ∷ low (s .origin) ∷ 0
     ∷ low (s .exit / 256) ∷ low (s .exit)
-    ∷ low (s .most / 16777216) ∷ low (s .most / 65536) ∷ low (s .most / 256) ∷ low (s .most)
-    ∷ 0 ∷ 0
-    ∷ []
+    ∷ low (s .most / 16777216) ∷ low (s .most / 65536) ∷ low (s .most / 256) ∷ low (s .most) ∷ 0 ∷ 0 ∷ []
 
 -- head, then c curves, each 201 entries, then n records
 unfoldable pub fileOf : Network → List ℕ

@@ -17,13 +17,11 @@ use Rattle.metanet.specs.declared.Setting.the-variants.{Open, Fixed, Ali
 
 -- −500..500
 abbrev pub complianceBad : ℤ → Bool
-complianceBad (pos a) = ltb 500 a
-complianceBad (negsuc a) = ltb 499 a
+complianceBad = elim [ pos a ↦ ltb 500 a | negsuc a ↦ ltb 499 a ]
 
 -- a compliance of −500..500 with 500 added
 abbrev pub complianceWord : ℤ → ℕ
-complianceWord (pos a) = 500 + a
-complianceWord (negsuc a) = 499 - a
+complianceWord = elim [ pos a ↦ 500 + a | negsuc a ↦ 499 - a ]
 
 -- 18: limit neither 0 nor 20..200, or compliance outside −500..500
 abbrev pub signRefused : ℕ → ℤ → Bool

@@ -12,8 +12,7 @@ rateChange gain target g n =
 
 -- R + q, and 0 where that is below 0
 abbrev pub moved : ℕ → ℤ → ℕ
-moved r (pos k) = r + k
-moved r (negsuc k) = r - suc k
+moved r = elim [ pos k ↦ r + k | negsuc k ↦ r - suc k ]
 
 -- rate R becomes R + q, then kept in least..Q; least is not below 0, so what is below 0 becomes least
 unfoldable pub alineaRate : Ramp → ℕ → ℕ → ℕ → ℕ

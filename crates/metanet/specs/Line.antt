@@ -26,7 +26,6 @@ change w c (signed i limit compliance) = withState c (i - 1) (signedState limit 
 change w c (metered i setting) = withState c (i - 1) (meteredState (segmentOf w (i - 1) .most) setting (stateOf (c .states) (i - 1)))
 change w c (stepped arrivals) = stepCase w c arrivals
 
--- the case of a line is the start case, changed by each item in order
 unfoldable pub caseOf : Network → Case → Line → Case
 unfolding change
 caseOf w c [] = c

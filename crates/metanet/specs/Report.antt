@@ -13,13 +13,11 @@ caseFigures w c =
     c .steps
     ∷ sumOf (λ i. stateOf (c .states) i .count) (w .head .size)
     ∷ sumOf (λ i. stateOf (c .states) i .queue) (w .head .size)
-    ∷ c .arrivals ∷ c .exits ∷ c .time
-    ∷ []
+    ∷ c .arrivals ∷ c .exits ∷ c .time ∷ []
 
 -- of segment i, counted from 0: N, s, bits of v, w, last outflow, last release, R
 unfoldable pub segmentFigures : Network → Case → ℕ → List ℕ
 segmentFigures w c i =
     let r = stateOf (c .states) i in
     r .count ∷ toUnsigned 64 (r .speed) ∷ toBits binary64 (r .speed) ∷ r .queue
-    ∷ r .flows .outflow ∷ r .flows .release ∷ rateOf (segmentOf w i .most) (r .ramp)
-    ∷ []
+    ∷ r .flows .outflow ∷ r .flows .release ∷ rateOf (segmentOf w i .most) (r .ramp) ∷ []

@@ -16,7 +16,7 @@ use Rattle.metanet.specs.Words.{netOf}
 use Rattle.metanet.proofs.InWords.{caseNumberIn}
 use Rattle.metanet.proofs.Ready.{CaseAt}
 use Rattle.metanet.proofs.SameNetwork.{case-number-from}
-use Rattle.book.specs.Arrangement.{caseWord, caseSpeed, wordsFor, speedsFor, sizeAt, caseAt, runCountAt, arrangementAt}
+use Rattle.book.specs.Arrangement.{caseWord, caseSpeed, wordsFor, speedsFor, sizeAt, caseAt, runCountAt, arrangement, arrangementAt}
 use Rattle.book.specs.Sound.{caseNumberAt, slotNumber, casesNumber, soundNumber}
 use Rattle.book.proofs.Laid.{Laid}
 
@@ -42,7 +42,7 @@ module _ {words : List ℕ} {speeds : List Float} {n : ℕ} (laid : Laid words s
 
   -- ---- the cases
   abbrev pub wordsBad : Bool
-  wordsBad = ltb 1000000 (runCountAt words) || not (eqb (arrangementAt words) 1)
+  wordsBad = ltb 1000000 (runCountAt words) || not (eqb (arrangementAt words) arrangement)
 
   pub words-refused : wordsBad ≡ true → 12 ≡ casesNumber words speeds
   unfolding casesNumber

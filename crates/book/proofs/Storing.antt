@@ -13,7 +13,7 @@ use Rattle.laws.proofs.First.{row-passed, row-later, first-zero-left, first-zer
 use Rattle.laws.proofs.Tests.{or-left, or-right, inside-low, inside-high}
 use Rattle.format.specs.Network.{Network}
 use Rattle.format.specs.File.{fileNumber, networkOf}
-use Rattle.book.specs.Arrangement.{wordsFor, speedsFor, networkAt, runCountAt, caseAt, startMarks}
+use Rattle.book.specs.Arrangement.{wordsFor, speedsFor, networkAt, runCountAt, caseAt, startMarks, arrangement}
 use Rattle.book.specs.Calls.{start, hold, recall, dropSlot, item}
 use Rattle.metanet.specs.Start.{startCase, startNumber}
 use Rattle.book.specs.Refusal.{Grounds, refusal, itemNumber, slotRefusal}
@@ -176,5 +176,5 @@ module _ (file mvs speeds queues : List ℕ) (a : Arrays) (g : Grounds) (many : 
         live = record { good = good-start file mvs speeds queues file-taken lists-taken; is = s .live };
         slots = λ k l x. absurd (none-some l x);
         slot-number = λ k l x. absurd (none-some l x);
-        marks = λ k lo hi. s .words-are k (omega arith) ∙ List·getD-append (replicate 15 0) (1 ∷ []) 0 k (omega arith) ∙ getD-replicate 15 k 0 0 (omega arith);
+        marks = λ k lo hi. s .words-are k (omega arith) ∙ List·getD-append (replicate 15 0) (arrangement ∷ []) 0 k (omega arith) ∙ getD-replicate 15 k 0 0 (omega arith);
       }

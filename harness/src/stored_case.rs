@@ -1,8 +1,8 @@
 //! One case in words and speeds of its own.
 //!
-//! The state of each segment has 16 words, 12 of them used; then come 8 words
-//! of totals, 4 of them used. Speed i is v of segment i. Everything else is
-//! garbage.
+//! The state of each segment has 16 words; then come 8 words of totals. Of
+//! both the first ones are used, those with a name. Speed i is v of segment i.
+//! Everything else is garbage.
 
 use crate::random::Random;
 use crate::speeds;
@@ -34,7 +34,8 @@ pub const ARRIVALS: usize = 1;
 pub const EXITS: usize = 2;
 pub const TIME: usize = 3;
 
-const STATE_NAMES: [&str; 13] = [
+/// Names of the words that are used, in order.
+const STATE_NAMES: &[&str] = &[
     "N",
     "w",
     "limit",
@@ -47,9 +48,8 @@ const STATE_NAMES: [&str; 13] = [
     "z",
     "last outflow",
     "last release",
-    "a free word",
 ];
-const TOTAL_NAMES: [&str; 5] = ["steps", "arrivals", "exits", "time", "a free word"];
+const TOTAL_NAMES: &[&str] = &["steps", "arrivals", "exits", "time"];
 
 /// A sound case of a network that a test is about to damage.
 pub struct CaseDraft {
@@ -91,7 +91,7 @@ pub fn put_case(case: &Case, words: &mut [u64], speeds: &mut [f64]) {
         words[state_word(place, 0)..][..state_words.len()].copy_from_slice(&state_words);
         speeds[place] = state.speed;
     }
-    let totals = [case.steps, case.arrivals, case.exits, case.time];
+    let totals: [u64; TOTAL_NAMES.len()] = [case.steps, case.arrivals, case.exits, case.time];
     words[total_word(case.segments.len(), 0)..][..totals.len()].copy_from_slice(&totals);
 }
 
@@ -114,13 +114,15 @@ pub fn words_for(n: usize) -> usize {
 /// 1.
 pub fn word_name(n: usize, at: usize) -> String {
     let (place, word) = (at / STATE_WORDS, at % STATE_WORDS);
+    let names = if place < n { STATE_NAMES } else { TOTAL_NAMES };
+    let name = names.get(word).unwrap_or(&"a free word");
     match place < n {
-        true => format!("{} of segment {}", STATE_NAMES[word.min(12)], place + 1),
-        false => TOTAL_NAMES[word.min(4)].to_string(),
+        true => format!("{name} of segment {}", place + 1),
+        false => name.to_string(),
     }
 }
 
-fn state_words(state: &SegmentState) -> [u64; 12] {
+fn state_words(state: &SegmentState) -> [u64; STATE_NAMES.len()] {
     let [limit, compliance] = match state.sign {
         Sign::Dark => [0, 0],
         Sign::Shown { limit, compliance } => [limit, (500 + compliance) as u64],

@@ -12,7 +12,8 @@
 #define FILE_BYTES (16 + 804 + 16)
 #define WORDS (2576 + 7 * (16 + 8))
 #define SPEEDS 7
-#define ARRANGEMENT 2575        /* the word of the arrangement number */
+#define ARRANGEMENT 1           /* the number of this arrangement */
+#define ARRANGEMENT_AT 2575     /* its word */
 #define START 2                 /* the slot of the start case */
 #define EMPTY 3                 /* a slot that stays empty */
 
@@ -129,7 +130,7 @@ static void tallies(Study study)
 {
     expect("start", start(study, WORDS, 90000), 0);
     expect("sound", study_sound(study.words, WORDS, study.speeds, SPEEDS), 0);
-    expect("arrangement number", study.words[ARRANGEMENT], 1);
+    expect("arrangement number", study.words[ARRANGEMENT_AT], ARRANGEMENT);
     expect_case(study, 0, listing[0]);
     expect("hold the start case", hold(study, START), 0);
     expect("step 1", step(study, 4000), 0);
@@ -215,10 +216,10 @@ static void start_case(Study study)
 /* A study of another arrangement is none of this engine's. */
 static void arrangement(Study study)
 {
-    study.words[ARRANGEMENT] = 2;
+    study.words[ARRANGEMENT_AT] = ARRANGEMENT + 1;
     expect("sound, another arrangement", study_sound(study.words, WORDS, study.speeds, SPEEDS), 12);
     expect("step, another arrangement", step(study, 0), 12);
-    study.words[ARRANGEMENT] = 1;
+    study.words[ARRANGEMENT_AT] = ARRANGEMENT;
     expect("sound again", study_sound(study.words, WORDS, study.speeds, SPEEDS), 0);
 }
 

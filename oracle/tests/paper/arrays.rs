@@ -6,7 +6,7 @@ use crate::networks;
 use crate::study::{ask, book, step};
 use oracle::book::{Call, Question};
 use oracle::file;
-use oracle::study::{self, Study};
+use oracle::study::{self, Study, ARRANGEMENT};
 
 /// Random calls: every answer is the book's, a refused call changes nothing,
 /// and the arrays hold what the book says.
@@ -33,7 +33,7 @@ fn arrays_follow_the_book() {
         }
     }
     assert!(book.runs() > 1_000);
-    assert_eq!(lent.words[2575], 1);
+    assert_eq!(lent.words[2575], ARRANGEMENT);
     lent.assert_past();
 }
 
@@ -45,7 +45,8 @@ fn start_word_by_word() {
     expected[..6].copy_from_slice(&[10, 1, 1, 20, 0, 40]);
     expected[16..217].fill(100_000);
     expected[1624..1632].copy_from_slice(&[500, 2, 0, 30, 180, 1, 0, 6_000]);
-    expected[2575..2582].copy_from_slice(&[1, 20_000, 5_000, 0, 0, 0, 6_000]);
+    expected[2575] = ARRANGEMENT;
+    expected[2576..2582].copy_from_slice(&[20_000, 5_000, 0, 0, 0, 6_000]);
     expected.resize(lent.words.len(), FREE);
     let mut bits = vec![FREE_SPEED; lent.speeds.len()];
     bits[0] = 90_000_f64.to_bits();
@@ -73,7 +74,7 @@ fn the_listing() {
 fn hold_and_drop_word_by_word() {
     let mut lent = Lent::started();
     let case_words = 16 * 3 + 8;
-    lent.words[2576 + 12] = 77;
+    lent.words[2576 + 15] = 77;
     let mut expected = lent.bits();
     assert_eq!(lent.number(&Call::Hold { slot: 4 }), 0);
     expected.0[2564] = 1;

@@ -3,6 +3,7 @@
 use crate::lent::Lent;
 use oracle::case::{Alinea, Case, Setting, Sign};
 use oracle::network::Network;
+use oracle::study::ARRANGEMENT;
 
 /// The first word of the live case.
 pub const LIVE: usize = 2576;
@@ -13,7 +14,7 @@ impl Lent {
         let mut lent = Lent::free();
         lent.lay_network(network);
         lent.lay(2560, [runs, 0, 0, 0, 0, 0, 0]);
-        lent.lay(2575, [1_u64]);
+        lent.lay(2575, [ARRANGEMENT]);
         lent.lay_live(case);
         lent
     }

@@ -4,7 +4,7 @@ use crate::lent::Lent;
 use crate::study::{ask, meter, sign, step, ALINEA, ROOM};
 use oracle::book::{Call, Question};
 use oracle::case::Setting;
-use oracle::study;
+use oracle::study::{self, ARRANGEMENT};
 
 /// Words of a case of three segments.
 const CASE_WORDS: usize = 16 * 3 + 8;
@@ -55,8 +55,9 @@ fn run_count_and_marks() {
 /// Arrays of another arrangement are not a study of this one.
 #[test]
 fn arrangement_number() {
-    assert_eq!(lent().words[2575], 1);
-    for number in [0, 2, 3, 1 + (1 << 32), u64::MAX] {
+    assert_eq!(lent().words[2575], ARRANGEMENT);
+    let (before, next) = (ARRANGEMENT - 1, ARRANGEMENT + 1);
+    for number in [0, before, next, ARRANGEMENT + (1 << 32), u64::MAX] {
         assert_eq!(with_word(2575, number), 12);
     }
 }
@@ -72,7 +73,7 @@ fn cases_that_are_looked_at() {
         assert_eq!(with_word(state + 3, 1_001), expected);
         assert_eq!(with_word(state + 4, 3), expected);
         assert_eq!(with_word(state + 5, 399), expected);
-        assert_eq!(with_word(state + 12, u64::MAX), 0);
+        assert_eq!(with_word(state + 15, u64::MAX), 0);
         assert_eq!(with_word(at + 48, 20_001), expected);
         assert_eq!(with_word(at + 51, 1_000_000_000_000_000_001), expected);
         assert_eq!(with_word(at + 52, u64::MAX), 0);

@@ -110,7 +110,7 @@ fn twelve_for_words_of_a_segment_state() {
     assert_ends(STATE + 9, &[1, 60], &[0, 61]);
     assert_ends(STATE + 10, &[most], &[most + 1]);
     assert_ends(STATE + 11, &[most], &[most + 1]);
-    assert_ends(STATE + 12, &[0, u64::MAX], &[]);
+    assert_ends(STATE + 15, &[0, u64::MAX], &[]);
 }
 
 /// Segment 1 is open with a dark sign, segment 3 has no origin besides.

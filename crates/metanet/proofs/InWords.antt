@@ -37,6 +37,10 @@ stepNumberIn net steps ds = stepNumber (headIn net) (entryIn net) (segmentIn net
 
 -- ---- the 16 words of a state
 
+-- how many of them are in use; the others are free
+abbrev pub wordsUsed : ℕ
+wordsUsed = 12
+
 -- its parts, put into the words w; a step puts R alone of the ramp
 unfoldable pub putSign : SignSetting → List ℕ → List ℕ
 putSign r w = set (set w 2 (r .limit)) 3 (r .compliance)

@@ -16,6 +16,7 @@ use Rattle.metanet.specs.Case.{Case, noState, stateOf}
 use Rattle.metanet.specs.Words.{stateIn, stateAt, statesIn, caseIn, putState, putCase, putCaseSpeeds}
 use Rattle.metanet.proofs.StateWords.{state-take}
 use Rattle.metanet.proofs.SoundLaws.{state-read}
+use Rattle.metanet.proofs.InWords.{wordsUsed}
 
 -- ---- the words of a state
 
@@ -28,12 +29,12 @@ unfolding putState stateIn
 state-put r w = refl
 
 -- a state that is there, put over words with the same free ones
-state-there : (w w' : List ℕ) (v : Float) → length w' ≡ 16 → drop 12 w' ≡ drop 12 w → putState (stateIn w' v) w ≡ w'
+state-there : (w w' : List ℕ) (v : Float) → length w' ≡ 16 → drop wordsUsed w' ≡ drop wordsUsed w → putState (stateIn w' v) w ≡ w'
 unfolding putState stateIn listed
 state-there w w' v many free =
-    (λ j. listed 0 w' 0 0 12 ++ sym free j)
-    ∙ ap (λ (l : List ℕ). l ++ drop 12 w') (sym (part-listed 0 w' 0 12 (omega (arith, many))))
-    ∙ take-append-drop 12 w'
+    (λ j. listed 0 w' 0 0 wordsUsed ++ sym free j)
+    ∙ ap (λ (l : List ℕ). l ++ drop wordsUsed w') (sym (part-listed 0 w' 0 wordsUsed (omega (arith, many))))
+    ∙ take-append-drop wordsUsed w'
 
 -- ---- a case is put in
 
@@ -136,7 +137,7 @@ module _ (at n : ℕ) (c : Case) (words : List ℕ) (room : at + 16 * n + 8 ≤ 
 -- the words words' are words, but for the figures of a case of n segments at place at
 pub record SameButCase (at n : ℕ) (words words' : List ℕ) : Type 0 where
   pub outside : SameOutside at (at + 16 * n + 4) words words'
-  pub free : (i : ℕ) → i < n → drop 12 (part (at + 16 * i) 16 words') ≡ drop 12 (part (at + 16 * i) 16 words)
+  pub free : (i : ℕ) → i < n → drop wordsUsed (part (at + 16 * i) 16 words') ≡ drop wordsUsed (part (at + 16 * i) 16 words)
 
 module _ (words' : List ℕ) (speeds' : List Float) (at from n : ℕ) {c : Case} (is : caseIn words' speeds' at from n ≡ c) where
   module _ {words : List ℕ} (s : SameButCase at n words words') (room : at + 16 * n + 8 ≤ length words) where

@@ -23,7 +23,7 @@ use Rattle.metanet.specs.Case.{Case, stateOf}
 use Rattle.metanet.specs.Change.{signedState, meteredState, withState}
 use Rattle.metanet.specs.Step.{vehiclesIn, stepCase}
 use Rattle.metanet.specs.Words.{netOf, stateIn, statesIn, caseIn, putState, putCase, putCaseSpeeds}
-use Rattle.metanet.proofs.InWords.{stateWords, signedWords, meteredWords, steppedWords, newWords, newSpeeds, stepWords, totalsWords, leaving, stepCaseWords, stepCaseSpeeds}
+use Rattle.metanet.proofs.InWords.{stateWords, signedWords, meteredWords, steppedWords, newWords, newSpeeds, stepWords, totalsWords, leaving, stepCaseWords, stepCaseSpeeds, wordsUsed}
 use Rattle.metanet.proofs.Ready.{Ready, TotalsOk}
 use Rattle.metanet.proofs.StateWords.{state-take, length-signed, length-metered, state-signed, state-metered}
 use Rattle.metanet.proofs.SoundLaws.{state-read}
@@ -38,19 +38,19 @@ use Rattle.metanet.proofs.Put.{SameButCase, put-there, put-speeds-there
 past : (m i : ℕ) → i < m → (l : List ℕ) (x : ℕ) → drop m (set l i x) ≡ drop m l
 past m i h l x = drop-set-lt m l i x h
 
-free-signed : (limit : ℕ) (compliance : ℤ) (w : List ℕ) → drop 12 (signedWords limit compliance w) ≡ drop 12 w
+free-signed : (limit : ℕ) (compliance : ℤ) (w : List ℕ) → drop wordsUsed (signedWords limit compliance w) ≡ drop wordsUsed w
 unfolding signedWords
-free-signed limit compliance w = simp (past 12 2 (lit< tt), past 12 3 (lit< tt))
+free-signed limit compliance w = simp (past wordsUsed 2 (lit< tt), past wordsUsed 3 (lit< tt))
 
-free-metered : (q : ℕ) (setting : Setting) (w : List ℕ) → drop 12 (meteredWords q setting w) ≡ drop 12 w
+free-metered : (q : ℕ) (setting : Setting) (w : List ℕ) → drop wordsUsed (meteredWords q setting w) ≡ drop wordsUsed w
 unfolding meteredWords
 free-metered q setting w =
-    simp (past 12 4 (lit< tt), past 12 5 (lit< tt), past 12 6 (lit< tt), past 12 7 (lit< tt), past 12 8 (lit< tt), past 12 9 (lit< tt))
+    simp (past wordsUsed 4 (lit< tt), past wordsUsed 5 (lit< tt), past wordsUsed 6 (lit< tt), past wordsUsed 7 (lit< tt), past wordsUsed 8 (lit< tt), past wordsUsed 9 (lit< tt))
 
-free-stepped : (w : List ℕ) (r : SegmentState) → drop 12 (steppedWords w r) ≡ drop 12 w
+free-stepped : (w : List ℕ) (r : SegmentState) → drop wordsUsed (steppedWords w r) ≡ drop wordsUsed w
 unfolding steppedWords
 free-stepped w r =
-    simp (past 12 0 (lit< tt), past 12 1 (lit< tt), past 12 5 (lit< tt), past 12 10 (lit< tt), past 12 11 (lit< tt))
+    simp (past wordsUsed 0 (lit< tt), past wordsUsed 1 (lit< tt), past wordsUsed 5 (lit< tt), past wordsUsed 10 (lit< tt), past wordsUsed 11 (lit< tt))
 
 free-totals : (w : List ℕ) (came left time : ℕ) → drop 4 (totalsWords w came left time) ≡ drop 4 w
 unfolding totalsWords
@@ -112,7 +112,7 @@ module _ (words : List ℕ) (speeds : List Float) (at from n i : ℕ) (h : i < n
   old-many = length-part words place 16 there
 
   -- its words become ys, and so the state f of it
-  module _ (ys : List ℕ) (f : SegmentState → SegmentState) (many : length ys ≡ 16) (is : (v : Float) → stateIn ys v ≡ f (stateIn old v)) (free : drop 12 ys ≡ drop 12 old) where
+  module _ (ys : List ℕ) (f : SegmentState → SegmentState) (many : length ys ≡ 16) (is : (v : Float) → stateIn ys v ≡ f (stateIn old v)) (free : drop wordsUsed ys ≡ drop wordsUsed old) where
     abbrev new : List ℕ
     new = putPart place 16 ys words
 
@@ -127,17 +127,17 @@ module _ (words : List ℕ) (speeds : List Float) (at from n i : ℕ) (h : i < n
         (is (getD speeds (from + i) nan)
         ∙ ap f (state-take (drop place words) (getD speeds (from + i) nan) ∙ sym (state-read words speeds at from n i h)))
 
-    free-same : (j : ℕ) → drop 12 (part (at + 16 * j) 16 new) ≡ drop 12 (part (at + 16 * j) 16 words)
+    free-same : (j : ℕ) → drop wordsUsed (part (at + 16 * j) 16 new) ≡ drop wordsUsed (part (at + 16 * j) 16 words)
     free-same j = go (eqb j i) refl
       where
-        go : (t : Bool) → eqb j i ≡ t → drop 12 (part (at + 16 * j) 16 new) ≡ drop 12 (part (at + 16 * j) 16 words)
+        go : (t : Bool) → eqb j i ≡ t → drop wordsUsed (part (at + 16 * j) 16 new) ≡ drop wordsUsed (part (at + 16 * j) 16 words)
         go true e =
             let here = eqb-true j i e in
-            ap (λ (k : ℕ). drop 12 (part (at + 16 * k) 16 new)) here
-            ∙ ap (drop 12) (part-put place 16 ys words many there)
+            ap (λ (k : ℕ). drop wordsUsed (part (at + 16 * k) 16 new)) here
+            ∙ ap (drop wordsUsed) (part-put place 16 ys words many there)
             ∙ free
-            ∙ ap (λ (k : ℕ). drop 12 (part (at + 16 * k) 16 words)) (sym here)
-        go false e = ap (drop 12) (words-other words speeds at from n i ys h many states-room j (eqb-false j i e))
+            ∙ ap (λ (k : ℕ). drop wordsUsed (part (at + 16 * k) 16 words)) (sym here)
+        go false e = ap (drop wordsUsed) (words-other words speeds at from n i ys h many states-room j (eqb-false j i e))
 
     same : SameButCase at n words new
     same =
@@ -241,7 +241,7 @@ module _ {words : List ℕ} {speeds : List Float} {ds : List ℕ} {at from n : �
               before = take-same totals-same at (omega arith) ∙ made-same .before;
               after = after-same;
             };
-        free = λ i l. ap (drop 12) (state-words i l) ∙ free-stepped (part (at + 16 * i) 16 words) _;
+        free = λ i l. ap (drop wordsUsed) (state-words i l) ∙ free-stepped (part (at + 16 * i) 16 words) _;
       }
 
   step-back : caseIn after (stepCaseSpeeds words speeds at from n ds) at from n ≡ stepped

@@ -60,8 +60,8 @@ module _ (file mvs initial queues : List ℕ) (a : Arrays) (e : refusalAt (start
   abbrev begin : Call
   begin = start file mvs initial queues
 
-  abbrev fresh : Book
-  fresh = started (networkOf file) (startCase (networkOf file) mvs initial queues)
+  abbrev begun-book : Book
+  begun-book = started (networkOf file) (startCase (networkOf file) mvs initial queues)
 
   no-refusal : refusal begin (groundsAt a) ≡ 0
   unfolding refusalAt row
@@ -75,7 +75,7 @@ module _ (file mvs initial queues : List ℕ) (a : Arrays) (e : refusalAt (start
   unfolding perform unless
   begin-state = rw e
 
-  pub begin-rel : Rel (length (a .words)) (length (a .speeds)) (perform begin a .state) fresh
+  pub begin-rel : Rel (length (a .words)) (length (a .speeds)) (perform begin a .state) begun-book
   begin-rel = rw begin-state (start-rel file mvs initial queues a (groundsAt a) refl refl no-refusal)
 
   pub begin-taken : (cs : List Call) → taken (begin ∷ cs) a ≡ begin ∷ taken cs (perform begin a .state)
@@ -90,7 +90,7 @@ module _ (file mvs initial queues : List ℕ) (a : Arrays) (e : refusalAt (start
       let more : Bool = noCall (bringsOver m) (taken cs z) in
       let both : (t && more) ≡ true = rw (begin-taken cs) at h in
       let n : networkOf file .head .size ≤ m = ltb-false _ _ (not-true (ltb m (networkOf file .head .size)) (and-left t more both)) in
-      past-trans (list-past m (length (a .words)) (length (a .speeds)) cs z fresh begin-rel n (and-right t more both))
+      past-trans (list-past m (length (a .words)) (length (a .speeds)) cs z begun-book begin-rel n (and-right t more both))
       (rw begin-state (begun-past (start-store file mvs initial queues a (groundsAt a) refl refl no-refusal) n))
 
   -- whatever the book had before
@@ -98,7 +98,7 @@ module _ (file mvs initial queues : List ℕ) (a : Arrays) (e : refusalAt (start
   unfolding refusal
   begin-book b = no-refusal
 
-  pub begin-entered : (b : Book) → enter (length (a .words)) (length (a .speeds)) begin b ≡ record { state = fresh; answer = accepted }
+  pub begin-entered : (b : Book) → enter (length (a .words)) (length (a .speeds)) begin b ≡ record { state = begun-book; answer = accepted }
   unfolding enter entered answerOf unless
   begin-entered b = rw (begin-book b)
 

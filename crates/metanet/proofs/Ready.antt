@@ -126,7 +126,7 @@ pub record NewStateOk (words : List ℕ) (a : ℕ) (v : Float) (d i n pass : ℕ
 -- what a step of the states leaves, and what it counts out: at most 40 exit parts and what leaves after the last segment
 pub record Stepped (words : List ℕ) (speeds : List Float) (ds : List ℕ) (at from n t : ℕ) (words' : List ℕ) (speeds' : List Float) (left : ℕ) : Type 0 where
   pub makes : words' ≡ stepWords words speeds at from n t ds
-  pub initial : speeds' ≡ stepSpeeds words speeds at from n t ds
+  pub speeds-are : speeds' ≡ stepSpeeds words speeds at from n t ds
   pub leaves : left ≡ leaving words speeds at from n
   pub bound : left ≤ 41 * 1000000000000
 

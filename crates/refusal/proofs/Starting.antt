@@ -62,12 +62,12 @@ module _ (b : List ℕ) (z : fileNumber b ≡ 0) where
     lists-are = ap (row uneven 13) (firstOf-ext _ (startNumberOn b mvs speeds queues) (headOf b .size) same-number)
 
 -- ---- the number of the call
-module _ (words : List ℕ) (initial : List Float) (b mvs speeds queues : List ℕ) where
+module _ (words : List ℕ) (lentSpeeds : List Float) (b mvs speeds queues : List ℕ) where
   abbrev number : ℕ
-  number = refusalAt (start b mvs speeds queues) (lent words initial)
+  number = refusalAt (start b mvs speeds queues) (lent words lentSpeeds)
 
   abbrev pub short : Bool
-  short = ltb (length words) (wordsFor (headOf b .size)) || ltb (length initial) (speedsFor (headOf b .size))
+  short = ltb (length words) (wordsFor (headOf b .size)) || ltb (length lentSpeeds) (speedsFor (headOf b .size))
 
   number-is : number ≡ first (fileNumber b) (row short 11 (startNumber (networkOf b) mvs speeds queues))
   unfolding refusalAt refusal networkFrom
@@ -101,8 +101,8 @@ module _ (words : List ℕ) (initial : List Float) (b mvs speeds queues : List �
     pub start-room : wordsFor (headOf b .size) ≤ length words
     start-room = ltb-false _ _ (or-left (ltb (length words) (wordsFor (headOf b .size))) _ (row-passed _ _ _ later))
 
-    pub start-lane : speedsFor (headOf b .size) ≤ length initial
-    start-lane = ltb-false _ _ (or-right (ltb (length words) (wordsFor (headOf b .size))) (ltb (length initial) (speedsFor (headOf b .size))) (row-passed _ _ _ later))
+    pub start-speeds-room : speedsFor (headOf b .size) ≤ length lentSpeeds
+    start-speeds-room = ltb-false _ _ (or-right (ltb (length words) (wordsFor (headOf b .size))) (ltb (length lentSpeeds) (speedsFor (headOf b .size))) (row-passed _ _ _ later))
 
     pub start-listed : Listed b mvs speeds queues
     start-listed = lists-even b start-file mvs speeds queues (row-passed _ _ _ (sym (lists-are b start-file mvs speeds queues) ∙ row-later _ _ _ later))

@@ -91,9 +91,9 @@ module _ (b mvs speeds queues : List ℕ) (z : fileNumber b ≡ 0) where
       made : stateWords (startState (networkOf b) mvs speeds queues i) ≡ openWords (getD mvs i 0) (getD queues i 0) (segmentOf (networkOf b) i .most)
       made = unfold stateWords startState openWords in refl
 
-  pub start-words : (words : List ℕ) (initial : List Float) → stored (start b mvs speeds queues) (lent words initial) .words ≡ beginWords b mvs queues n words
+  pub start-words : (words : List ℕ) (lentSpeeds : List Float) → stored (start b mvs speeds queues) (lent words lentSpeeds) .words ≡ beginWords b mvs queues n words
   unfolding stored startWords beginWords startCase networkFrom
-  start-words words initial =
+  start-words words lentSpeeds =
       ap (putCase (caseWord n 0) n c) (sym (append-assoc (keptWords (networkOf b)) startMarks _))
       ∙ case-begun c n front (drop (caseWord n 1) words) (caseWord n 0) (length-front b mvs queues words z ∙ omega arith)
       ∙ (λ j. front ++ (parts-ext _ _ n open-state j ++ (replicate 8 0 ++ drop (place j) words)))
@@ -104,8 +104,8 @@ module _ (b mvs speeds queues : List ℕ) (z : fileNumber b ≡ 0) where
       place : caseWord n 1 ≡ 2584 + 16 * n
       place = omega arith
 
-  pub start-speeds : (words : List ℕ) (initial : List Float) → stored (start b mvs speeds queues) (lent words initial) .speeds ≡ table (λ i. real (getD speeds i 0)) n ++ drop n initial
+  pub start-speeds : (words : List ℕ) (lentSpeeds : List Float) → stored (start b mvs speeds queues) (lent words lentSpeeds) .speeds ≡ table (λ i. real (getD speeds i 0)) n ++ drop n lentSpeeds
   unfolding stored putCaseSpeeds networkFrom
-  start-speeds words initial =
-      ap (λ (m : ℕ). take m initial ++ (table (λ i. stateOf (c .states) i .speed) n ++ drop (m + n) initial)) (zero-mul n)
-      ∙ (λ j. table-ext (λ i. stateOf (c .states) i .speed) (λ i. real (getD speeds i 0)) n (λ i l. ap (λ (r : SegmentState). r .speed) (state-is i l) ∙ (unfold startState in refl)) j ++ drop (zero-add n j) initial)
+  start-speeds words lentSpeeds =
+      ap (λ (m : ℕ). take m lentSpeeds ++ (table (λ i. stateOf (c .states) i .speed) n ++ drop (m + n) lentSpeeds)) (zero-mul n)
+      ∙ (λ j. table-ext (λ i. stateOf (c .states) i .speed) (λ i. real (getD speeds i 0)) n (λ i l. ap (λ (r : SegmentState). r .speed) (state-is i l) ∙ (unfold startState in refl)) j ++ drop (zero-add n j) lentSpeeds)

@@ -41,7 +41,7 @@ returns c =
     let made = r .step-states .ensures in (
       case-made (s .pre .0) (s .pre .1) (made .makes) (span (s .args .at + 16 * s .args .n) 8) (vehicles r .before .before .sum-arrivals .ensures .0) (made .leaves) (vehicles r .vehicles-in .ensures .0)
           (c .before .before .add-totals .ensures),
-      made .initial,
+      made .speeds-are,
     )
 
 pub step-spec : {M : Type 1} → statement M

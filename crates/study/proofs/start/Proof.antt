@@ -8,7 +8,7 @@ use Rattle.format.specs.File.{headOf}
 use Rattle.book.specs.Calls as calls
 use Rattle.book.specs.Perform.{lent, refusalAt, answerOf}
 use Rattle.book.proofs.Performing.{refuses, accepts}
-use Rattle.refusal.proofs.Starting.{start-file, start-room, start-lane, start-listed}
+use Rattle.refusal.proofs.Starting.{start-file, start-room, start-speeds-room, start-listed}
 use Rattle.study.proofs.Beginning.{start-words, start-speeds}
 use Rattle.study.proofs.start.Statement.{statement}
 use Rattle.study.proofs.start.Tie as tie
@@ -38,7 +38,7 @@ put-speeds-requires : tie.Need-put-speeds-requires
 put-speeds-requires c κs =
     let h = c .before .before .before .before .before in
     let z = taken (h .before) in
-    (omega (arith, start-listed _ _ _ _ _ _ z .speeds-many, size h), omega (arith, start-lane _ _ _ _ _ _ z, size h))
+    (omega (arith, start-listed _ _ _ _ _ _ z .speeds-many, size h), omega (arith, start-speeds-room _ _ _ _ _ _ z, size h))
 
 returns-2 : tie.Need-returns-2
 unfolding answerOf

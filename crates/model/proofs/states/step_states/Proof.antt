@@ -78,7 +78,7 @@ returns c =
     let end = turn-end ok (inv .0) (c .loop-test .left) in
     record {
       makes = end .0;
-      initial = end .1;
+      speeds-are = end .1;
       leaves = λ j. (inv .1 .is ∙ ap (sumOf _) (e ∙ ok .size)) j + (inv .0 .passed-is ∙ ap (inflowIn (a .words .now) (a .speeds .now) (a .at) (a .from) (a .n)) (e ∙ ok .size)) j;
       bound = all-left c;
     }

@@ -91,7 +91,7 @@ pub extern "C" fn study_start(
 ) -> u64
     ensures { λ r. ⌜ Called (start (now (file .entry)) (now (mvs .entry)) (now (initial .entry)) (now (queues .entry))) (now (words .entry)) (now (speeds .entry)) [] r (now (words .exit)) (now (speeds .exit)) [] ⌝ }
 {
-    number_of(study::start(words, speeds, file, mvs, initial, queues))
+    number_of(begin::start(words, speeds, file, mvs, initial, queues))
 }
 
 // The sign of a segment of the live case.

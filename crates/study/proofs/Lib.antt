@@ -1,2 +1,1 @@
-pub mod Beginning
 pub mod Changing

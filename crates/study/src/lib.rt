@@ -1,5 +1,4 @@
 // A study in the lent words and speeds: its network, run count and marks, its live case and six slots.
-mod begin; // begin.rt: Start
 mod change; // change.rt: what a sign and a setting put into a state
 mod copy; // copy.rt: a case copied to the place of another
 
@@ -9,31 +8,8 @@ use case_words::RUN_WORD;
 use metanet::Setting;
 use refusal::calls;
 ghost use Rattle.metanet.specs.Line.{signed, metered, stepped};
-ghost use Rattle.book.specs.Calls.{start, item, hold, recall, dropSlot, verdictSays};
+ghost use Rattle.book.specs.Calls.{item, hold, recall, dropSlot, verdictSays};
 ghost use Rattle.book.specs.Perform.{Performs};
-
-// Begins a study on a network file: for each segment initial mv, speed in whole m/h and queue in mv. All ramps are open, signs dark,
-// flows and totals 0, slots empty, the run count 0.
-pub fn start(
-    words: &mut [u64],
-    speeds: &mut [f64],
-    file: &[u8],
-    mvs: &[u32],
-    initial: &[u32],
-    queues: &[u32],
-) -> Verdict
-    ensures { λ r. ⌜ Performs (start (now (file .entry)) (now (mvs .entry)) (now (initial .entry)) (now (queues .entry))) (now (words .entry)) (now (speeds .entry)) (verdictSays r) (now (words .exit)) (now (speeds .exit)) ⌝ }
-{
-    let r = refusal::start::start_number(words, speeds, file, mvs, initial, queues);
-    if r != 0 {
-        return Verdict::Refused(r);
-    }
-    let h = network::head_of(file);
-    let n = h.size as usize;
-    begin::put_words(words, file, mvs, queues, n);
-    begin::put_speeds(speeds, initial, n);
-    Verdict::Accepted
-}
 
 // Sets the sign of segment i, from 1: a limit in km/h, 0 where it is dark, with compliance in thousandths.
 pub fn sign(words: &mut [u64], speeds: &[f64], i: u64, limit: u64, compliance: i64) -> Verdict

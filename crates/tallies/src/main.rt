@@ -61,7 +61,7 @@ fn run(file: &[u8], words: &mut [u64], speeds: &mut [f64])
     let mvs = [20000];
     let initial = [90000];
     let queues = [5000];
-    match study::start(words, speeds, file, &mvs, &initial, &queues) {
+    match begin::start(words, speeds, file, &mvs, &initial, &queues) {
         book::Verdict::Refused(number) => last(number),
         book::Verdict::Accepted => list(words, speeds),
     }

@@ -1,9 +1,9 @@
 use mathlib.Core.Path.{_≡_, sym, _∙_}
 use borrow.Author.Needs.{needs}
-use Rattle.study.specs.Ready.{openWords}
+use Rattle.begin.specs.Ready.{openWords}
 use Rattle.arrays.proofs.Over.{over-same}
-use Rattle.study.proofs.begin.put_state.Statement.{statement}
-use Rattle.study.proofs.begin.put_state.Tie as tie
+use Rattle.begin.proofs.words.put_state.Statement.{statement}
+use Rattle.begin.proofs.words.put_state.Tie as tie
 
 returns : tie.Need-returns
 unfolding openWords

@@ -7,10 +7,10 @@ use denote.Ref.{now}
 use borrow.Author.Needs.{needs}
 use Rattle.laws.proofs.Lists.{span}
 use Rattle.laws.proofs.Puts.{Filled, filled-none, filled-more, filled-length, filled-all}
-use Rattle.study.specs.Ready.{openWordsOn}
-use Rattle.study.proofs.Beginning.{length-open, whole, part-long}
-use Rattle.study.proofs.begin.put_states.Statement.{statement}
-use Rattle.study.proofs.begin.put_states.Tie as tie
+use Rattle.begin.specs.Ready.{openWordsOn}
+use Rattle.begin.proofs.Beginning.{length-open, whole, part-long}
+use Rattle.begin.proofs.words.put_states.Statement.{statement}
+use Rattle.begin.proofs.words.put_states.Tie as tie
 
 abbrev Inv-loop : tie.InvT-loop
 Inv-loop words₀ file mvs queues n i₀ words i = Filled 16 (openWordsOn file mvs queues) 2576 n words₀ words i

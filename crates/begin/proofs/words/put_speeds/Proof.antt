@@ -12,8 +12,8 @@ use Rattle.laws.specs.Lists.{table}
 use Rattle.laws.specs.Real.{real}
 use Rattle.laws.proofs.Lists.{length-table, getD-table}
 use Rattle.laws.proofs.Puts.{Stored, stored-none, stored-more, stored-length, stored-all}
-use Rattle.study.proofs.begin.put_speeds.Statement.{statement}
-use Rattle.study.proofs.begin.put_speeds.Tie as tie
+use Rattle.begin.proofs.words.put_speeds.Statement.{statement}
+use Rattle.begin.proofs.words.put_speeds.Tie as tie
 
 abbrev Inv-loop : tie.InvT-loop
 Inv-loop speeds₀ initial n i₀ speeds i = Stored (table (λ k. real (getD initial k 0)) n) 0 n speeds₀ speeds i

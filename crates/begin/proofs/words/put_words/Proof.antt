@@ -3,9 +3,9 @@ use native.Mathlib.Omega.{arith}
 use denote.Ref.{now}
 use borrow.Author.Needs.{needs}
 use Rattle.refusal.proofs.Starting.{size-high}
-use Rattle.study.proofs.Beginning.{begun}
-use Rattle.study.proofs.begin.put_words.Statement.{statement}
-use Rattle.study.proofs.begin.put_words.Tie as tie
+use Rattle.begin.proofs.Beginning.{begun}
+use Rattle.begin.proofs.words.put_words.Statement.{statement}
+use Rattle.begin.proofs.words.put_words.Tie as tie
 
 put-states-requires : tie.Need-put-states-requires
 put-states-requires c κs =

@@ -9,9 +9,9 @@ use Rattle.book.specs.Calls as calls
 use Rattle.book.specs.Perform.{lent, refusalAt, answerOf}
 use Rattle.book.proofs.Performing.{refuses, accepts}
 use Rattle.refusal.proofs.Starting.{start-file, start-room, start-speeds-room, start-listed}
-use Rattle.study.proofs.Beginning.{start-words, start-speeds}
-use Rattle.study.proofs.start.Statement.{statement}
-use Rattle.study.proofs.start.Tie as tie
+use Rattle.begin.proofs.Beginning.{start-words, start-speeds}
+use Rattle.begin.proofs.start.Statement.{statement}
+use Rattle.begin.proofs.start.Tie as tie
 
 abbrev begin : tie.Else1 → tie.Start
 begin c = c .before .before .before .before .before .before .before .before .before .before

@@ -25,7 +25,7 @@ use Rattle.book.specs.Arrangement.{caseWord, startMarks}
 use Rattle.book.specs.Calls.{start}
 use Rattle.metanet.specs.Start.{startState, startCase}
 use Rattle.book.specs.Perform.{lent, startWords, stored}
-use Rattle.study.specs.Ready.{openWords, openWordsOn, beginWords}
+use Rattle.begin.specs.Ready.{openWords, openWordsOn, beginWords}
 use Rattle.refusal.proofs.Starting.{same-segment}
 
 -- ---- what is written, part by part

@@ -8,8 +8,8 @@ use Rattle.laws.specs.Lists.{part}
 use Rattle.laws.proofs.Lists.{span, length-part, take-replicate}
 use Rattle.laws.proofs.Puts.{part-changed}
 use Rattle.arrays.proofs.Over.{over-all}
-use Rattle.study.proofs.begin.put_zeros.Statement.{statement}
-use Rattle.study.proofs.begin.put_zeros.Tie as tie
+use Rattle.begin.proofs.words.put_zeros.Statement.{statement}
+use Rattle.begin.proofs.words.put_zeros.Tie as tie
 
 returns : tie.Need-returns
 returns c =

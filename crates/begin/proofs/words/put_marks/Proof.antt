@@ -6,8 +6,8 @@ use Rattle.laws.proofs.Lists.{length-part}
 use Rattle.laws.proofs.Puts.{part-changed}
 use Rattle.arrays.proofs.Over.{over-same}
 use Rattle.book.specs.Arrangement.{startMarks}
-use Rattle.study.proofs.begin.put_marks.Statement.{statement}
-use Rattle.study.proofs.begin.put_marks.Tie as tie
+use Rattle.begin.proofs.words.put_marks.Statement.{statement}
+use Rattle.begin.proofs.words.put_marks.Tie as tie
 
 returns : tie.Need-returns
 unfolding startMarks

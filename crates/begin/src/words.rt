@@ -7,7 +7,7 @@ ghost use Rattle.laws.specs.Lists.{table, putPart, puts};
 ghost use Rattle.laws.specs.Real.{real};
 ghost use Rattle.format.specs.File.{fileNumber, headOf, segmentOn};
 ghost use Rattle.book.specs.Arrangement.{startMarks};
-ghost use Rattle.study.specs.Ready.{openWords, openWordsOn, beginWords};
+ghost use Rattle.begin.specs.Ready.{openWords, openWordsOn, beginWords};
 
 // A state at the start: dark sign, open ramp with R at Q, flows 0.
 fn state_words(mv: u64, queue: u64, most: u64) -> [u64; 16]

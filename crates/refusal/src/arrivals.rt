@@ -35,7 +35,7 @@ fn arrivals_number(net: &[u64], arrivals: &[u32], n: usize) -> u64
 }
 
 // 13, 15 and 16, of a case of n segments that has taken this many steps.
-pub fn step_number(net: &[u64], arrivals: &[u32], n: usize, steps: u64) -> u64
+pub(crate) fn step_number(net: &[u64], arrivals: &[u32], n: usize, steps: u64) -> u64
     requires { ⌜ (n ≤ 40) × (n ≡ headIn (now net) .size) ⌝ }
     ensures { λ r. ⌜ r ≡ stepNumberIn (now (net .entry)) steps (now (arrivals .entry)) ⌝ }
 {

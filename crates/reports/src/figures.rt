@@ -16,7 +16,7 @@ ghost use Rattle.reports.specs.Figures.{figuresAt, stateFigures, Showabl
 ghost use Rattle.refusal.specs.Ready.{Reportable};
 
 // The figures of case k.
-pub fn case_figures(words: &[u64], n: usize, k: usize) -> CaseFigures
+pub(crate) fn case_figures(words: &[u64], n: usize, k: usize) -> CaseFigures
     requires { ⌜ k ≤ 6 ⌝ }
     requires { ⌜ Summable (now words) (caseWord n k) 0 n ⌝ }
     requires { ⌜ Summable (now words) (caseWord n k) 1 n ⌝ }
@@ -62,7 +62,7 @@ fn state_figures(s: Segment, w: &[u64], v: f64) -> SegmentFigures
 }
 
 // The figures of segment i, counted from 0, of case k.
-pub fn segment_figures(
+pub(crate) fn segment_figures(
     words: &[u64],
     speeds: &[f64],
     n: usize,

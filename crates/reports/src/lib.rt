@@ -1,5 +1,5 @@
 // The questions about a study, and Write.
-pub mod figures; // figures.rt: the figures that a report gives
+mod figures; // figures.rt: the figures that a report gives
 
 use book::CaseReport;
 use book::RunReport;

@@ -6,7 +6,7 @@ ghost use Rattle.metanet.specs.Flow.{jamBound, alineaRate, releaseOf, outflowOf
 ghost use Rattle.metanet.proofs.Ready.{RampOk};
 
 // The most that a segment with n mv lets in from its origin: 0 from the jam density on.
-pub fn jam_bound(most: u64, jam: u64, critical: u64, g: u64, n: u64) -> u64
+pub(crate) fn jam_bound(most: u64, jam: u64, critical: u64, g: u64, n: u64) -> u64
     requires { ⌜ (most ≤ 300000) × (jam ≤ 200) × (critical < jam) × (0 < g) × (g ≤ 16000) ⌝ }
     ensures { λ r. ⌜ r ≡ jamBound most jam critical g n ⌝ }
 {
@@ -32,7 +32,7 @@ fn bounded(least: u64, most: u64, x: u64) -> u64
 }
 
 // ALINEA's new rate on an area g with n mv; the quotient goes towards zero on either side of the target.
-pub fn alinea(r: Ramp, most: u64, g: u64, n: u64) -> u64
+pub(crate) fn alinea(r: Ramp, most: u64, g: u64, n: u64) -> u64
     requires { ⌜ RampOk most r ⌝ }
     requires { ⌜ (most ≤ 300000) × (0 < g) × (g ≤ 16000) × (n ≤ 1000000000000) ⌝ }
     ensures { λ x. ⌜ x ≡ alineaRate r most g n ⌝ }
@@ -50,7 +50,7 @@ pub fn alinea(r: Ramp, most: u64, g: u64, n: u64) -> u64
 }
 
 // The least of three.
-pub fn release_of(waiting: u64, rate: u64, bound: u64) -> u64
+pub(crate) fn release_of(waiting: u64, rate: u64, bound: u64) -> u64
     ensures { λ r. ⌜ r ≡ releaseOf waiting rate bound ⌝ }
 {
     if waiting <= rate {
@@ -66,7 +66,7 @@ pub fn release_of(waiting: u64, rate: u64, bound: u64) -> u64
 }
 
 // What n mv at s m/h let out of l metres in t seconds.
-pub fn outflow(n: u64, s: u64, t: u64, l: u64) -> u64
+pub(crate) fn outflow(n: u64, s: u64, t: u64, l: u64) -> u64
     requires { ⌜ (n ≤ 1000000000000) × (s ≤ 200000) × (t ≤ 60) × (0 < l) × (l ≤ 2000) ⌝ }
     ensures { λ r. ⌜ r ≡ outflowOf n s t l ⌝ }
 {
@@ -74,7 +74,7 @@ pub fn outflow(n: u64, s: u64, t: u64, l: u64) -> u64
 }
 
 // What of an outflow leaves by the off-ramp.
-pub fn exit_part(outflow: u64, share: u64) -> u64
+pub(crate) fn exit_part(outflow: u64, share: u64) -> u64
     requires { ⌜ (outflow ≤ 1000000000000) × (share ≤ 1000) ⌝ }
     ensures { λ r. ⌜ r ≡ exitPart outflow share ⌝ }
 {

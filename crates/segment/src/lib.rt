@@ -1,4 +1,4 @@
 // One segment of a METANET step with ALINEA ramps.
-pub mod flow; // flow.rt: rates, releases and flows, whole numbers
-pub mod speed; // speed.rt: the new speed, binary64
+mod flow; // flow.rt: rates, releases and flows, whole numbers
+mod speed; // speed.rt: the new speed, binary64
 pub mod state; // state.rt: the new state of a segment

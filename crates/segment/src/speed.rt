@@ -72,7 +72,7 @@ fn kept(f: u64, x: f64) -> f64
 }
 
 // The speed that curve k gives at n mv on an area g.
-pub fn curve_speed(net: &[u64], k: u64, n: u64, g: u64) -> f64
+pub(crate) fn curve_speed(net: &[u64], k: u64, n: u64, g: u64) -> f64
     requires { ⌜ (k < 8) × (0 < g) × (g ≤ 16000) ⌝ }
     requires { ⌜ CurveWithin (entryIn (now net) k) ⌝ }
     ensures { λ r. ⌜ r ≡ curveSpeed (entryIn (now (net .entry)) k) n g ⌝ }
@@ -87,7 +87,7 @@ pub fn curve_speed(net: &[u64], k: u64, n: u64, g: u64) -> f64
 }
 
 // The desired speed under a sign.
-pub fn desired(v: f64, sign: Sign) -> f64
+pub(crate) fn desired(v: f64, sign: Sign) -> f64
     ensures { λ r. ⌜ r ≡ underSign v sign ⌝ }
 {
     match sign {
@@ -102,7 +102,15 @@ pub fn desired(v: f64, sign: Sign) -> f64
 }
 
 // The new speed on a curve that starts at free.
-pub fn new_speed(h: Head, s: Segment, free: u64, o: Old, want: f64, ramp: bool, release: u64) -> f64
+pub(crate) fn new_speed(
+    h: Head,
+    s: Segment,
+    free: u64,
+    o: Old,
+    want: f64,
+    ramp: bool,
+    release: u64,
+) -> f64
     requires { ⌜ HeadWithin h ⌝ }
     requires { ⌜ (s .metres ≤ 2000) × (s .lanes ≤ 8) × (free ≤ 200000) × (release ≤ 300000) ⌝ }
     ensures { λ r. ⌜ r ≡ newSpeed h s free o want ramp release ⌝ }

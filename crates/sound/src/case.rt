@@ -141,7 +141,7 @@ fn totals_bad(vehicles: u64, steps: u64, arrivals: u64, exits: u64, time: u64) -
 }
 
 // 12 where the case whose states start at word at and whose speeds start at from is not sound.
-pub fn case_number(words: &[u64], speeds: &[f64], at: usize, from: usize, n: usize) -> u64
+pub(crate) fn case_number(words: &[u64], speeds: &[f64], at: usize, from: usize, n: usize) -> u64
     requires { ⌜ CaseAt (now words) (now speeds) at from n ⌝ }
     ensures { λ r. ⌜ r ≡ caseNumberIn (now (words .entry)) (now (speeds .entry)) at from n ⌝ }
 {

@@ -1,6 +1,6 @@
 // Whether a case and a study are sound.
-pub mod case; // case.rt: a case
-pub mod study; // study.rt: a study
+mod case; // case.rt: a case
+mod study; // study.rt: a study
 
 ghost use mathlib.Core.Path.{_≡_};
 ghost use Rattle.book.specs.Sound.{sound};

@@ -69,7 +69,7 @@ fn cases_number(words: &[u64], speeds: &[f64], n: usize) -> u64
     slots_number(words, speeds, n)
 }
 
-pub fn sound_number(words: &[u64], speeds: &[f64]) -> u64
+pub(crate) fn sound_number(words: &[u64], speeds: &[f64]) -> u64
     ensures { λ r. ⌜ r ≡ soundNumber (now (words .entry)) (now (speeds .entry)) ⌝ }
 {
     if words.len() < network_words::NETWORK_WORDS {

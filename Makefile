@@ -1,5 +1,6 @@
 # make run    the program tallies on its network
-# make test   the gate: every proof and must-fail edit, then the comparison with the second implementation
+# make test   the gate: every proof and must-fail edit, then the comparison with the second implementation and the lists
+# make lists  lists of calls from a third implementation, with their answers
 # make bench  engine and second implementation side by side
 # make fuzz   coverage-guided fuzzing of the C interface under AddressSanitizer, an hour on two cores
 # make long-compare a long comparison on generated input
@@ -18,7 +19,7 @@ FUZZ_SECONDS = 3600
 MEMORY = 300
 SEED = 20261115
 
-.PHONY: run test bench fuzz fuzzer fuzz-check long-compare harness oracle-tests c-tests inspect-tests memory scenarios
+.PHONY: run test lists bench fuzz fuzzer fuzz-check long-compare harness oracle-tests c-tests inspect-tests memory scenarios
 
 run:
 	rt check tallies
@@ -26,6 +27,10 @@ run:
 
 test:
 	bash tools/gate FILES=$(FILES) SEED=$(SEED)
+
+# tests/lists/README.md says where they come from and how they are written.
+lists: harness
+	$(HARNESS)/play tests/lists
 
 bench: harness
 	$(HARNESS)/bench

@@ -3,8 +3,9 @@
  * Every function answers a number: 0 where the call is accepted, else the number of the first refusal that applies;
  * docs/REFUSALS.md says each in words. A refused call leaves every lent array exactly as it came.
  * 24 comes after all other refusals: the room lent for an answer is too short. These have it: network_curve,
- * network_place, study_report, study_report_segment, study_run_count and study_write. In study_write it is a refusal of
- * document 01, in the others it is this interface's own.
+ * network_place, survey_read, survey_write, study_run, study_report, study_report_segment, study_run_count and
+ * study_write. In study_write and for the lent list or bytes of survey_read and survey_write it is a refusal of the
+ * papers, in the others it is this interface's own.
  * network_place answers 0 of a refused file too, and puts the file's number into place[0].
  *
  * A list is lent as a pointer and its length in elements; a length of 0 may come with any pointer that is not null.
@@ -35,6 +36,21 @@ uint64_t network_curve(const uint8_t *file, size_t file_len, uint64_t curve, uin
  * (7, 8), place[2] the entry (6) or the broken rule of the row (4, 7; docs/REFUSALS.md lists them), both from 0;
  * place[3] the byte offset; later words stay. The answer is 24 where place_len is below 4, or 0. */
 uint64_t network_place(const uint8_t *file, size_t file_len, uint64_t *place, size_t place_len);
+
+/* ---- A survey file: a day of arrivals
+ *
+ * Big-endian: "FWD", version 1 in two bytes, n in one, the row count in two, then the rows, each of n arrivals of four
+ * bytes. The arrivals are judged by study_run, not here. */
+
+/* The file for n segments: its arrivals row by row from arrivals[0] on, figures[0] becomes the row count; later places
+ * stay. 25 under 8 bytes, mark or version; 26 n outside 1 to 40 or not the file's, more than 20,000 rows, or length;
+ * 24 where arrivals_len is below rows * n or figures_len is 0. */
+uint64_t survey_read(const uint8_t *file, size_t file_len, uint64_t n, uint32_t *arrivals, size_t arrivals_len,
+                     uint64_t *figures, size_t figures_len);
+
+/* The file of whole rows of n arrivals, 8 + 4 * arrivals_len bytes from out[0] on; later bytes stay. 26 n outside 1 to
+ * 40, or a list that is not 0 to 20,000 whole rows; 24. */
+uint64_t survey_write(uint64_t n, const uint32_t *arrivals, size_t arrivals_len, uint8_t *out, size_t out_len);
 
 /* ---- A study
  *
@@ -73,6 +89,13 @@ uint64_t study_meter_alinea(uint64_t *words, size_t words_len, const double *spe
 /* One step of the live case with the arrivals of each segment in mv. 12, 13, 15, 16. */
 uint64_t study_step(uint64_t *words, size_t words_len, double *speeds, size_t speeds_len, const uint32_t *arrivals,
                     size_t arrivals_len);
+
+/* The rows of a survey file as steps of the live case, up to the first row that a step refuses: figures[0] becomes how
+ * many rows were taken, figures[1] the number that refused the next, 12, 15 or 16, or 0 where all were taken; later
+ * words stay. The answer is 0 where the first row is refused too. 12; 25 and 26 as in survey_read, with the study's n;
+ * 24 where figures_len is below 2, before any row is taken. */
+uint64_t study_run(uint64_t *words, size_t words_len, double *speeds, size_t speeds_len, const uint8_t *file,
+                   size_t file_len, uint64_t *figures, size_t figures_len);
 
 /* Copies the live case into a slot, 1 to 6: 12, 21, 22. Copies a slot's case over the live one: 12, 21, 23. Empties a
  * slot: 12, 21, 23. */

@@ -1,7 +1,7 @@
 //! Files of any bytes, and files of valid networks with something changed.
 
 use crate::input::Input;
-use harness::compare::{curves, expect_agreement, Difference};
+use harness::compare::{curves, expect_agreement, surveys, Difference};
 use harness::networks::{calm_road, network, road, Shape};
 use harness::random::Random;
 use oracle::file::{self, Network};
@@ -18,6 +18,13 @@ pub fn patched(input: &mut Input) -> Result<(), Difference> {
     let network = valid(input, &mut random);
     let curve = input.number();
     ask(&changed(input, &network), curve, &mut random)
+}
+
+/// The rest of the input is a survey file.
+pub fn survey(input: &mut Input) -> Result<(), Difference> {
+    let n = input.number();
+    let mut random = input.random();
+    surveys::expect_agreement(&Box::<[u8]>::from(input.rest()), n, &mut random)
 }
 
 fn ask(file: &[u8], curve: u64, random: &mut Random) -> Result<(), Difference> {

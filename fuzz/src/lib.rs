@@ -41,6 +41,7 @@ fn one(input: &mut Input) -> Result<(), Difference> {
     match input.below(8) {
         0 => files::raw(input),
         1 => files::patched(input),
+        2 => files::survey(input),
         _ => studies::calls(input),
     }
 }

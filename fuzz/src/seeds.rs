@@ -1,9 +1,10 @@
-//! Inputs to begin with: whole valid files, sound studies and lists of right
-//! calls, damaged arrays, and short bytes of any content.
+//! Inputs to begin with: whole valid files and survey files, sound studies and
+//! lists of right calls, damaged arrays, and short bytes of any content.
 
 use harness::calls::KINDS;
 use harness::networks::road;
 use harness::random::Random;
+use harness::surveys::Day;
 use oracle::file;
 use std::path::Path;
 use std::{fs, io};
@@ -15,7 +16,7 @@ const SEGMENTS: u64 = 4;
 
 /// Writes all of them into the folder; the same seed gives the same inputs.
 pub fn write(folder: &Path, seed: u64) -> io::Result<()> {
-    let kinds: [fn(&mut Random) -> Vec<u8>; 4] = [whole_file, right_calls, damaged, any_bytes];
+    let kinds = [whole_file, right_calls, damaged, any_bytes, whole_survey];
     for (number, kind) in kinds.iter().enumerate() {
         for index in 0..EACH {
             let mut random = Random::new(seed, number as u64, index);
@@ -38,6 +39,16 @@ fn whole_file(random: &mut Random) -> Vec<u8> {
     let mut bytes = vec![0, 0];
     bytes.extend(any(random, 2));
     bytes.extend(file::write(&network));
+    bytes
+}
+
+/// For `files::survey`: n, a generator's two bytes, a file.
+fn whole_survey(random: &mut Random) -> Vec<u8> {
+    let segments = random.between(1, 40);
+    let network = road(random, segments);
+    let mut bytes = vec![2, segments as u8];
+    bytes.extend(any(random, 2));
+    bytes.extend(Day::some(random, &network).file());
     bytes
 }
 

@@ -28,6 +28,11 @@ pub enum Call {
     },
     /// Arrivals in mv.
     Step(Box<[u32]>),
+    /// The rows of a survey file.
+    Run {
+        file: Box<[u8]>,
+        room: usize,
+    },
     Hold(u64),
     Recall(u64),
     Drop(u64),
@@ -76,6 +81,8 @@ impl Call {
 
 /// What stands in a lent buffer before the call.
 const FILL: u64 = 0x5afe_9a2d_5afe_9a2d;
+/// Figures of a run: rows taken, and the number that stopped it or 0.
+pub const RUN_FIGURES: usize = 2;
 /// A buffer too short.
 const BUFFER: u64 = 24;
 
@@ -83,7 +90,9 @@ impl Answer {
     /// The call's buffers as they are lent, each exactly as long as its room.
     pub fn lent(call: &Call) -> Answer {
         let (figures, bytes) = match *call {
-            Call::Question { room, .. } | Call::RunCount { room } => (room, 0),
+            Call::Run { room, .. } | Call::Question { room, .. } | Call::RunCount { room } => {
+                (room, 0)
+            }
             Call::Write { room } => (0, room),
             _ => (0, 0),
         };
@@ -106,7 +115,7 @@ impl Answer {
     }
 
     /// The figures of a report from the buffer's beginning on, or 24.
-    fn give(&mut self, figures: &[u64]) {
+    pub(crate) fn give(&mut self, figures: &[u64]) {
         match self.figures.get_mut(..figures.len()) {
             Some(room) => room.copy_from_slice(figures),
             None => self.number = BUFFER,
@@ -114,7 +123,7 @@ impl Answer {
     }
 
     /// A file likewise.
-    fn give_bytes(&mut self, file: &[u8]) {
+    pub(crate) fn give_bytes(&mut self, file: &[u8]) {
         match self.bytes.get_mut(..file.len()) {
             Some(room) => room.copy_from_slice(file),
             None => self.number = BUFFER,

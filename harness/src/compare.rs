@@ -11,8 +11,10 @@ mod lists;
 mod million;
 mod random_bytes;
 mod refused;
+mod runs;
 mod steps;
 mod studies;
+pub mod surveys;
 mod tallies;
 mod valid;
 mod write;
@@ -103,6 +105,11 @@ pub const TESTS: &[Test] = &[
         one: write::one,
     },
     Test {
+        name: "survey files",
+        inputs: Inputs::Files(10),
+        one: surveys::one,
+    },
+    Test {
         name: "random steps",
         inputs: Inputs::Steps(100),
         one: steps::one,
@@ -116,6 +123,11 @@ pub const TESTS: &[Test] = &[
         name: "refused steps",
         inputs: Inputs::Steps(50),
         one: refused::one,
+    },
+    Test {
+        name: "runs",
+        inputs: Inputs::Steps(50),
+        one: runs::one,
     },
     Test {
         name: "tallies",

@@ -1,4 +1,4 @@
-//! Damages to a valid file, to a stored network, to a sound case, or to what a
+//! Damages to a valid file, to a survey file, to a stored network, to a sound case, or to what a
 //! study keeps between the two, each with the number that it must bring.
 
 mod curves;
@@ -12,6 +12,7 @@ mod settings;
 mod signs;
 mod speeds;
 mod stored;
+mod survey;
 
 use crate::arrays::Arrays;
 use crate::draft::Draft;
@@ -34,7 +35,7 @@ pub enum Part {
     LastRecord,
 }
 
-/// A damage to `D`: a file, the words of a stored network, a case in words and
+/// A damage to `D`: a file, a survey file, the words of a stored network, a case in words and
 /// speeds, or the arrays of a study.
 pub struct Damage<D: 'static> {
     pub name: &'static str,
@@ -76,6 +77,9 @@ pub const FILE: [&[Damage<Draft>]; 4] = [
     curves::DAMAGES,
     records::DAMAGES,
 ];
+
+/// Every damage to a survey file.
+pub const SURVEY: [&[Damage<Vec<u8>>]; 1] = [survey::DAMAGES];
 
 /// Every damage to the words of a stored network.
 pub const STORED: [&[Damage<Stored>]; 1] = [stored::DAMAGES];

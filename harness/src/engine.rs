@@ -18,6 +18,10 @@ functions! {
         refused by [1, 2, 3, 4, 5, 6, 7, 8, 10, 24];
     network_place(file: [u8], place: [mut u64]) refused by [24];
 
+    survey_read(file: [u8], n: u64, arrivals: [mut u32], figures: [mut u64])
+        refused by [25, 26, 24];
+    survey_write(n: u64, arrivals: [u32], out: [mut u8]) refused by [26, 24];
+
     study_sound(study) refused by [12];
     study_start(study, file: [u8], mvs: [u32], initial_speeds: [u32], queues: [u32])
         refused by [1, 2, 3, 4, 5, 6, 7, 8, 11, 13, 14];
@@ -27,6 +31,7 @@ functions! {
     study_meter_alinea(study, segment: u64, target: u64, gain: u64, least: u64, interval: u64)
         refused by [12, 17, 19, 20];
     study_step(study, arrivals: [u32]) refused by [12, 13, 15, 16];
+    study_run(study, file: [u8], figures: [mut u64]) refused by [12, 25, 26, 24];
     study_hold(study, slot: u64) refused by [12, 21, 22];
     study_recall(study, slot: u64) refused by [12, 21, 23];
     study_drop(study, slot: u64) refused by [12, 21, 23];

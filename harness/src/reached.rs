@@ -1,5 +1,6 @@
-//! Which numbers the C functions answered in this run.
+//! Which numbers the C functions answered in this run, and how runs ended.
 
+use crate::calls::Answer;
 use crate::engine::Function;
 use std::sync::atomic::{AtomicU64, Ordering};
 
@@ -10,9 +11,39 @@ const NUMBERS: usize = 64;
 static COUNTS: [[AtomicU64; NUMBERS]; Function::ALL.len()] =
     [const { [const { AtomicU64::new(0) }; NUMBERS] }; Function::ALL.len()];
 
-/// Counts one answer that was as expected.
+/// How an accepted run of rows can end: the number that stopped it or 0,
+/// whether rows were taken before, and that in words. 12 refuses the run where
+/// it meets the first row.
+const ENDS: [(u64, bool, &str); 7] = [
+    (0, false, "no rows"),
+    (0, true, "all rows taken"),
+    (12, true, "12 after some rows"),
+    (15, false, "15 at once"),
+    (15, true, "15 after some rows"),
+    (16, false, "16 at once"),
+    (16, true, "16 after some rows"),
+];
+
+/// How often each of them came up.
+static ENDED: [AtomicU64; ENDS.len()] = [const { AtomicU64::new(0) }; ENDS.len()];
+
+/// Counts one number that was as expected.
 pub fn note(function: Function, number: u64) {
     COUNTS[function as usize][number as usize].fetch_add(1, Ordering::Relaxed);
+}
+
+/// Counts the number of such an answer and, where it is that of an accepted
+/// run, how the run ended.
+pub fn note_answer(function: Function, answer: &Answer) {
+    note(function, answer.number);
+    let (Function::study_run, 0, &[taken, stopped, ..]) =
+        (function, answer.number, &*answer.figures)
+    else {
+        return;
+    };
+    let is_it = |&(number, after_rows, _): &_| (number, after_rows) == (stopped, taken > 0);
+    let end = ENDS.iter().position(is_it).expect("an end of a run");
+    ENDED[end].fetch_add(1, Ordering::Relaxed);
 }
 
 /// Prints a line for each function: how often it accepted, and how often each
@@ -27,13 +58,26 @@ pub fn say() -> bool {
             complete = false;
             continue;
         }
-        let refused = numbers.iter().map(|&number| match times(number) {
-            0 => format!("{number} NEVER"),
-            times => format!("{number} ({times})"),
-        });
+        let refused = numbers.iter().map(|number| said(number, times(*number)));
         let refused: Vec<String> = refused.collect();
         println!("{name:<22} {:>9}  {}", times(0), refused.join(", "));
         complete &= times(0) > 0 && numbers.iter().all(|&number| times(number) > 0);
     }
-    complete
+    say_ends() && complete
+}
+
+/// The same for the ends of runs, in one line.
+fn say_ends() -> bool {
+    let times = ENDED.each_ref().map(|end| end.load(Ordering::Relaxed));
+    let ends = ENDS.iter().zip(times);
+    let ends: Vec<String> = ends.map(|((.., name), times)| said(name, times)).collect();
+    println!("{:<22} {}", "runs ended", ends.join(", "));
+    times.iter().all(|&times| times > 0)
+}
+
+fn said(what: impl std::fmt::Display, times: u64) -> String {
+    match times {
+        0 => format!("{what} NEVER"),
+        times => format!("{what} ({times})"),
+    }
 }

@@ -12,6 +12,7 @@ pub(crate) mod rows;
 use crate::case::{Case, Setting, Sign};
 use crate::file;
 use crate::network::Network;
+use crate::survey;
 pub use calls::{Call, Figures, Lengths, Start};
 pub use line::{Item, Line};
 pub use questions::Question;
@@ -57,6 +58,7 @@ impl Book {
             } => self.sign(segment, limit, compliance)?,
             Call::Meter { segment, setting } => self.meter(segment, setting)?,
             Call::Step { arrivals } => self.step(arrivals)?,
+            Call::Run { file } => return self.run(file),
             Call::Hold { slot } => self.hold(slot)?,
             Call::Recall { slot } => self.recall(slot)?,
             Call::Drop { slot } => self.drop_slot(slot)?,
@@ -115,6 +117,12 @@ impl Book {
         self.live.append(&self.network, item);
         self.runs += 1;
         Ok(())
+    }
+
+    /// Row by row as single steps.
+    fn run(&mut self, file: &[u8]) -> Result<Figures, u8> {
+        let rows = survey::rows(file, self.network.segments.len() as u64)?;
+        Ok(survey::run(rows, |row| self.step(row)))
     }
 
     fn hold(&mut self, slot: u64) -> Result<(), u8> {

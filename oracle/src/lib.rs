@@ -1,4 +1,5 @@
-//! The freeway study engine a second time, written from document 01 alone.
+//! The freeway study engine a second time, written from documents 01
+//! and 02 alone.
 //!
 //! It shares no code with the proved engine. The two are run against each
 //! other on many inputs; where they differ, one of them misreads the paper.
@@ -13,3 +14,4 @@ pub mod step;
 mod stored;
 mod stored_case;
 pub mod study;
+pub mod survey;

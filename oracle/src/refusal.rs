@@ -47,3 +47,8 @@ pub const FILLED: u8 = 22;
 pub const EMPTY: u8 = 23;
 /// The lent buffer is too short.
 pub const BUFFER: u8 = 24;
+/// A survey file of under 8 bytes, of another mark or of another version.
+pub const SURVEY_HEAD: u8 = 25;
+/// Survey: another n than the study's or outside 1..40, more than 20,000
+/// rows, or a length that is not that of whole rows.
+pub const SURVEY_SIZE: u8 = 26;

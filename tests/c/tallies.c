@@ -1,7 +1,7 @@
 /* The listing of document 01 through the C interface: its network file is built in memory, a study is started on it, and
- * both steps are made. Then come the slots, refusals and Write. Every difference is a line on standard error; the exit
- * status is 0 where there is none. The arrays are exactly as long as one segment needs; the speed of an empty slot is a
- * NaN whose bits no call may change. */
+ * both steps are made. Then come the slots, refusals, Write, and the same two steps as a run of a survey file. Every
+ * difference is a line on standard error; the exit status is 0 where there is none. The arrays are exactly as long as one
+ * segment needs; the speed of an empty slot is a NaN whose bits no call may change. */
 #include "engine.h"
 
 #include <inttypes.h>
@@ -12,6 +12,7 @@
 #define FILE_BYTES (16 + 804 + 16)
 #define WORDS (2576 + 7 * (16 + 8))
 #define SPEEDS 7
+#define DAY_BYTES (8 + 4 * 2)   /* a survey file of two rows of one arrival */
 #define ARRANGEMENT 1           /* the number of this arrangement */
 #define ARRANGEMENT_AT 2575     /* its word */
 #define START 2                 /* the slot of the start case */
@@ -235,9 +236,63 @@ static void writing(Study study)
     free(out);
 }
 
+/* Two rows are written as a survey file, and read back; the file is lent exactly, and a place past the list stays. */
+static void survey(uint8_t *day)
+{
+    static const uint8_t expected[DAY_BYTES] = {'F', 'W', 'D', 0, 1, 1, 0, 2, 0, 0, 4000 >> 8, 4000 & 255};
+    const uint32_t rows[2] = {4000, 0};
+    uint32_t back[3] = {7, 7, 7};
+    uint64_t count[2] = {7, 7};
+    expect("survey write, room", survey_write(1, rows, 2, day, DAY_BYTES - 1), 24);
+    expect("survey write, n 0", survey_write(0, rows, 2, day, DAY_BYTES), 26);
+    expect("survey bytes stay", day[0], 0xa5);
+    expect("survey write", survey_write(1, rows, 2, day, DAY_BYTES), 0);
+    expect("survey file", (uint64_t)memcmp(day, expected, DAY_BYTES), 0);
+    expect("survey read, mark", survey_read(day + 1, DAY_BYTES - 1, 1, back, 3, count, 2), 25);
+    expect("survey read, n", survey_read(day, DAY_BYTES, 2, back, 3, count, 2), 26);
+    expect("survey read, list", survey_read(day, DAY_BYTES, 1, back, 1, count, 2), 24);
+    expect("survey read, figure", survey_read(day, DAY_BYTES, 1, back, 3, count, 0), 24);
+    expect("list stays", back[0], 7);
+    expect("survey read", survey_read(day, DAY_BYTES, 1, back, 3, count, 2), 0);
+    expect("rows", count[0], 2);
+    expect("word after the rows", count[1], 7);
+    expect("row 1", back[0], 4000);
+    expect("row 2", back[1], 0);
+    expect("place after the list", back[2], 7);
+}
+
+static void expect_run(Study study, const uint8_t *day, uint64_t taken, uint64_t stopped)
+{
+    uint64_t figures[3] = {7, 7, 7};
+    expect("run", study_run(study.words, WORDS, study.speeds, SPEEDS, day, DAY_BYTES, figures, 3), 0);
+    expect("rows taken", figures[0], taken);
+    expect("stopped by", figures[1], stopped);
+    expect("word after the run", figures[2], 7);
+}
+
+/* The listing as a run of two rows, then one whose second row is refused: it ends after the first. */
+static void runs(Study study, uint8_t *day)
+{
+    uint64_t figures[2];
+    uint64_t *words = study.words;
+    expect("recall before the run", recall(study, START), 0);
+    expect("run, room", study_run(words, WORDS, study.speeds, SPEEDS, day, DAY_BYTES, figures, 1), 24);
+    expect("run, length", study_run(words, WORDS, study.speeds, SPEEDS, day, DAY_BYTES - 1, figures, 2), 26);
+    expect("run, mark", study_run(words, WORDS, study.speeds, SPEEDS, study.file, FILE_BYTES, figures, 2), 25);
+    expect_case(study, 0, listing[0]);
+    expect_run(study, day, 2, 0);
+    expect_case(study, 0, listing[2]);
+    expect_segment(study, 97500.0, 8444, 3000);
+    expect("recall before the second run", recall(study, START), 0);
+    put32(day + 12, 1000001);
+    expect_run(study, day, 1, 15);
+    expect_case(study, 0, listing[1]);
+}
+
 int main(void)
 {
     Study study = {lend(WORDS * sizeof(uint64_t)), lend(SPEEDS * sizeof(double)), lend(FILE_BYTES)};
+    uint8_t *day = lend(DAY_BYTES);
     const uint64_t no_number = 0x7ff0deadfeedbeef;
     memcpy(study.speeds + EMPTY, &no_number, sizeof no_number);
     build_file(study.file);
@@ -250,10 +305,13 @@ int main(void)
     start_case(study);
     arrangement(study);
     writing(study);
+    survey(day);
+    runs(study, day);
     expect("NaN in an empty slot", (uint64_t)memcmp(study.speeds + EMPTY, &no_number, sizeof no_number), 0);
     free(study.words);
     free(study.speeds);
     free(study.file);
+    free(day);
     if (differences == 0)
         puts("tallies: every figure as in document 01");
     return differences == 0 ? 0 : 1;

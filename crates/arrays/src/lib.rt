@@ -1,6 +1,9 @@
-// Loops over lent arrays, and tests of numbers, that several crates use. None asks anything of its caller.
+// Loops over lent arrays, and tests of numbers, that several crates use.
+pub mod number; // number.rt: big-endian numbers in bytes
+
 ghost use mathlib.Core.Path.{_≡_};
-ghost use Prim.Native.Nat.{min};
+ghost use Prim.Native.Nat.{_<_, min};
+ghost use lib.ListN.{length, getD};
 ghost use Rattle.laws.specs.First.{outside};
 ghost use Rattle.arrays.specs.Over.{over};
 
@@ -35,6 +38,20 @@ pub fn put_speeds(src: &[f64], out: &mut [f64])
         out[i] = src[i];
         i += 1;
     }
+}
+
+fn wide(x: u32) -> u64
+    ensures { λ r. ⌜ r ≡ x ⌝ }
+{
+    x as u64
+}
+
+// Number i of a list.
+pub fn entry(list: &[u32], i: usize) -> u64
+    requires { ⌜ i < length (now list) ⌝ }
+    ensures { λ r. ⌜ r ≡ getD (now (list .entry)) i 0 ⌝ }
+{
+    wide(list[i])
 }
 
 // Whether x is not one of least..most.

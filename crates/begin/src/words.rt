@@ -22,11 +22,7 @@ fn put_state(state: &mut [u64], file: &[u8], mvs: &[u32], queues: &[u32], i: usi
     ensures { λ _. ⌜ now (state .exit) ≡ openWords (getD (now (mvs .entry)) i 0) (getD (now (queues .entry)) i 0) (segmentOn (now (file .entry)) i .most) ⌝ }
 {
     let s = network::segment_of(file, i as u32);
-    let made = state_words(
-        refusal::start::entry(mvs, i),
-        refusal::start::entry(queues, i),
-        s.most,
-    );
+    let made = state_words(arrays::entry(mvs, i), arrays::entry(queues, i), s.most);
     arrays::put_words(&made, state);
 }
 

@@ -20,11 +20,13 @@ use Rattle.book.specs.Calls.{Call, start, item, hold, recall, dropSlot, 
 use Rattle.book.specs.Refusal.{questionRefusal, refusal}
 use Rattle.book.specs.Perform.{Arrays, Outcome, unless, refusalAt, answerOf, perform, after, taken}
 use Rattle.book.specs.Book.{Book, isFilled, started, entered, groundsIn, enter}
+use Rattle.book.specs.Run.{CallOrRun, performAny, enterAny, singles}
 use Rattle.book.specs.Agreed.{AgreedCase}
 use Rattle.book.proofs.Rel.{Rel}
 use Rattle.book.proofs.Views.{filled-view, sound-view, refusal-view}
 use Rattle.book.proofs.Sim.{inBook, call-rel}
-use Rattle.book.proofs.Demand3.{list-rel, begin-rel}
+use Rattle.book.proofs.Runs.{list-book, list-rel}
+use Rattle.book.proofs.Demand3.{begin-rel}
 
 -- ---- the book: slot k has the line l, on the network and from the start case of o
 
@@ -82,12 +84,16 @@ module _ (words speeds : ℕ) where
             )
         go (suc m) e f = (K, f)
 
-    list-keeps : (cs : List Call) (a : Arrays) (b : Book) → Rel words speeds a b → Leave k (taken cs a) → Keeps k l o b → Keeps k l o (after (enter words speeds) cs b)
+    calls-keep : (cs : List Call) (a : Arrays) (b : Book) → Rel words speeds a b → Leave k (taken cs a) → Keeps k l o b → Keeps k l o (after (enter words speeds) cs b)
     unfolding taken after
-    list-keeps [] a b r f K = K
-    list-keeps (c ∷ cs) a b r f K =
+    calls-keep [] a b r f K = K
+    calls-keep (c ∷ cs) a b r f K =
         let p = call-keeps b c (taken cs (perform c a .state)) (rw (refusal-view r c) at f) K in
-        list-keeps cs (perform c a .state) (enter words speeds c b .state) (call-rel r c) (p .1) (p .0)
+        calls-keep cs (perform c a .state) (enter words speeds c b .state) (call-rel r c) (p .1) (p .0)
+
+    list-keeps : (cs : List CallOrRun) (a : Arrays) (b : Book) → Rel words speeds a b → Leave k (taken (singles cs a) a) → Keeps k l o b
+        → Keeps k l o (after (enterAny words speeds) cs b)
+    list-keeps cs a b r f K = rw (list-book cs r) (calls-keep (singles cs a) a b r f K)
 
   -- right after the hold
   hold-keeps : (k : ℕ) (b : Book) → refusal (hold k) (groundsIn words speeds b) ≡ 0 → Keeps k (b .live) b (enter words speeds (hold k) b .state)
@@ -129,21 +135,21 @@ slot-case : {words speeds : ℕ} {z : Arrays} {b o : Book} (k : ℕ) (l : Line) 
 slot-case k l r K = r .slots k l (K .slot) .is ∙ (λ i. caseOf (K .network i) (K .begun i) l)
 
 pub agreed-case : AgreedCase
-unfolding after
+unfolding after performAny
 agreed-case file mvs initial queues before later k a e h no-start no-drop =
     let words : ℕ = length (a .words) in
     let speeds : ℕ = length (a .speeds) in
     let z₀ : Arrays = perform (start file mvs initial queues) a .state in
     let b₀ : Book = started (networkOf file) (startCase (networkOf file) mvs initial queues) in
-    let x : Arrays = after perform before z₀ in
-    let o : Book = after (enter words speeds) before b₀ in
-    let rx : Rel words speeds x o = list-rel words speeds before z₀ b₀ (begin-rel file mvs initial queues a e) in
+    let x : Arrays = after performAny before z₀ in
+    let o : Book = after (enterAny words speeds) before b₀ in
+    let rx : Rel words speeds x o = list-rel before (begin-rel file mvs initial queues a e) in
     let y : Arrays = perform (hold k) x .state in
     let oy : Book = enter words speeds (hold k) o .state in
     let ry : Rel words speeds y oy = call-rel rx (hold k) in
-    let z : Arrays = after perform later y in
-    let oz : Book = after (enter words speeds) later oy in
-    let rz : Rel words speeds z oz = list-rel words speeds later y oy ry in
+    let z : Arrays = after performAny later y in
+    let oz : Book = after (enterAny words speeds) later oy in
+    let rz : Rel words speeds z oz = list-rel later ry in
     let Ky : Keeps words speeds k (o .live) o oy = hold-keeps words speeds k o (sym (refusal-view rx (hold k)) ∙ h) in
     let Kz : Keeps words speeds k (o .live) o oz = list-keeps words speeds later y oy ry (no-start, no-drop) Ky in
     let was = slot-case k (o .live) ry Ky in

@@ -1,4 +1,4 @@
--- A list of calls that begins with a Start on the file of a network: its answers on arrays that are long enough are the book's.
+-- A list of calls and runs that begins with a Start on the file of a network: its answers on arrays that are long enough are the book's.
 use Prim.Native.Nat.{ℕ, _≤_}
 use mathlib.Core.Path.{_≡_, refl, ap, _∙_}
 use mathlib.Core.Bool.{false, _||_}
@@ -15,11 +15,12 @@ use Rattle.format.specs.Written.{fileOf}
 use Rattle.format.proofs.Reading.{read-back, file-accepted-of}
 use Rattle.metanet.specs.Start.{startCase, startNumber}
 use Rattle.book.specs.Arrangement.{wordsFor, speedsFor}
-use Rattle.book.specs.Calls.{Call, start}
+use Rattle.book.specs.Calls.{start}
 use Rattle.book.specs.Question.{accepted}
 use Rattle.book.specs.Refusal.{refusal}
-use Rattle.book.specs.Perform.{Arrays, refusalAt, perform, answers}
-use Rattle.book.specs.Book.{Book, started, enter}
+use Rattle.book.specs.Perform.{Arrays, refusalAt, answers}
+use Rattle.book.specs.Book.{Book, started}
+use Rattle.book.specs.Run.{CallOrRun, single, performAny, enterAny}
 use Rattle.book.proofs.Demand3.{demand-3, begin-entered}
 
 module _ (w : Network) (within : networkNumber w ≡ 0) (formed : Formed w) (mvs speeds queues : List ℕ) (taken : startNumber w mvs speeds queues ≡ 0) where
@@ -38,10 +39,10 @@ module _ (w : Network) (within : networkNumber w ≡ 0) (formed : Formed w) (mvs
         ∙ row-skipped _ _ _ room
         ∙ taken
 
-    pub begun-answers : (cs : List Call)
-        → answers perform (start (fileOf w) mvs speeds queues ∷ cs) a
-        ≡ accepted ∷ answers (enter (length (a .words)) (length (a .speeds))) cs (started w (startCase w mvs speeds queues))
-    unfolding answers
+    pub begun-answers : (cs : List CallOrRun)
+        → answers performAny (single (start (fileOf w) mvs speeds queues) ∷ cs) a
+        ≡ accepted ∷ answers (enterAny (length (a .words)) (length (a .speeds))) cs (started w (startCase w mvs speeds queues))
+    unfolding answers enterAny
     begun-answers cs =
         let b : Book = started w (startCase w mvs speeds queues) in
         demand-3 (fileOf w) mvs speeds queues cs a b start-taken .same-answers

@@ -1,4 +1,4 @@
--- Demand 3, of every list of calls that begins with an accepted Start, on arrays of any content.
+-- Demand 3, of every list of calls and runs that begins with an accepted Start, on arrays of any content.
 use Prim.Native.Nat.{ℕ, zero, suc, _≤_}
 use mathlib.Core.Path.{ap, _≡_, refl, sym, _∙_}
 use mathlib.Core.Bool.{Bool, true, _&&_, not}
@@ -19,40 +19,36 @@ use Rattle.book.specs.Refusal.{refusal}
 use Rattle.book.specs.Perform.{Arrays, unless, groundsAt, refusalAt, answerOf, perform, answers, after, taken, stored}
 use Rattle.metanet.specs.Line.{Line}
 use Rattle.book.specs.Book.{Book, started, entered, groundsIn, enter, lineAt, lineIn}
+use Rattle.book.specs.Run.{CallOrRun, single, performAny, enterAny, singlesOf, singles}
 use Rattle.book.specs.Claim.{Balanced, Since, Demand3}
 use Rattle.book.proofs.Rel.{Kept, Rel}
 use Rattle.book.proofs.Views.{filled-view, sound-view, refusal-view}
 use Rattle.book.proofs.History.{since-start, since-call}
 use Rattle.book.proofs.Storing.{start-store, start-rel}
-use Rattle.book.proofs.Sim.{call-same, call-rel}
+use Rattle.book.proofs.Sim.{call-rel}
+use Rattle.book.proofs.Runs.{list-arrays, list-book, list-rel, list-answers}
 use Rattle.book.proofs.Past.{Past, past-trans, begun-past, list-past}
 use Rattle.metanet.proofs.LineStart.{start-total}
 
--- ---- a list of calls on arrays that hold a book
+-- ---- the accepted calls of a list
 
 module _ (words speeds : ℕ) where
-  list-answers : (cs : List Call) (a : Arrays) (b : Book) → Rel words speeds a b → answers perform cs a ≡ answers (enter words speeds) cs b
-  unfolding answers
-  list-answers [] a b r = refl
-  list-answers (c ∷ cs) a b r =
-      λ i. call-same r c i ∷ list-answers cs (perform c a .state) (enter words speeds c b .state) (call-rel r c) i
-
-  pub list-rel : (cs : List Call) (a : Arrays) (b : Book) → Rel words speeds a b → Rel words speeds (after perform cs a) (after (enter words speeds) cs b)
-  unfolding after
-  list-rel [] a b r = r
-  list-rel (c ∷ cs) a b r = list-rel cs (perform c a .state) (enter words speeds c b .state) (call-rel r c)
-
   since-first : {a : Arrays} {b : Book} → Rel words speeds a b → {h : List Call} → Since h b → (c : Call) (later : List Call) (B : Book)
       → ((x : List Call) → Since x (enter words speeds c b .state) → Since (x ++ later) B) → Since (h ++ ifAccepted (refusalAt c a) (c ∷ later) later) B
   since-first r s c later B more = rw (refusal-view r c) (since-call s words speeds c later B more)
 
-  list-since : (cs : List Call) (h : List Call) (a : Arrays) (b : Book) → Rel words speeds a b → Since h b
+  calls-since : (cs : List Call) (h : List Call) (a : Arrays) (b : Book) → Rel words speeds a b → Since h b
       → Since (h ++ taken cs a) (after (enter words speeds) cs b)
   unfolding taken after
-  list-since [] h a b r s = rw (append-nil h) s
-  list-since (c ∷ cs) h a b r s =
+  calls-since [] h a b r s = rw (append-nil h) s
+  calls-since (c ∷ cs) h a b r s =
       since-first r s c (taken cs (perform c a .state)) (after (enter words speeds) cs (enter words speeds c b .state))
-      (λ x t. list-since cs x (perform c a .state) (enter words speeds c b .state) (call-rel r c) t)
+      (λ x t. calls-since cs x (perform c a .state) (enter words speeds c b .state) (call-rel r c) t)
+
+  -- those of a run are its steps
+  list-since : (cs : List CallOrRun) (h : List Call) (a : Arrays) (b : Book) → Rel words speeds a b → Since h b
+      → Since (h ++ taken (singles cs a) a) (after (enterAny words speeds) cs b)
+  list-since cs h a b r s = rw (list-book cs r) (calls-since (singles cs a) h a b r s)
 
 -- ---- the Start that the list begins with
 
@@ -78,20 +74,22 @@ module _ (file mvs initial queues : List ℕ) (a : Arrays) (e : refusalAt (start
   pub begin-rel : Rel (length (a .words)) (length (a .speeds)) (perform begin a .state) begun-book
   begin-rel = rw begin-state (start-rel file mvs initial queues a (groundsAt a) refl refl no-refusal)
 
-  pub begin-taken : (cs : List Call) → taken (begin ∷ cs) a ≡ begin ∷ taken cs (perform begin a .state)
-  unfolding taken ifAccepted
+  pub begin-taken : (cs : List CallOrRun) → let z : Arrays = perform begin a .state in taken (singles (single begin ∷ cs) a) a ≡ begin ∷ taken (singles cs z) z
+  unfolding singles singlesOf performAny taken ifAccepted
   begin-taken cs = rw e
 
-  begin-past : (cs : List Call) (m : ℕ) → noCall (bringsOver m) (taken (begin ∷ cs) a) ≡ true → Past m (after perform (begin ∷ cs) a) a
-  unfolding noCall after
+  begin-past : (cs : List CallOrRun) (m : ℕ) → noCall (bringsOver m) (taken (singles (single begin ∷ cs) a) a) ≡ true
+      → Past m (after performAny (single begin ∷ cs) a) a
+  unfolding noCall after performAny
   begin-past cs m h =
       let z : Arrays = perform begin a .state in
       let t : Bool = not (ltb m (networkOf file .head .size)) in
-      let more : Bool = noCall (bringsOver m) (taken cs z) in
+      let more : Bool = noCall (bringsOver m) (taken (singles cs z) z) in
       let both : (t && more) ≡ true = rw (begin-taken cs) at h in
       let n : networkOf file .head .size ≤ m = ltb-false _ _ (not-true (ltb m (networkOf file .head .size)) (and-left t more both)) in
-      past-trans (list-past m (length (a .words)) (length (a .speeds)) cs z begun-book begin-rel n (and-right t more both))
-      (rw begin-state (begun-past (start-store file mvs initial queues a (groundsAt a) refl refl no-refusal) n))
+      let later : Past m (after performAny cs z) z =
+      rw (list-arrays cs z) (list-past m (length (a .words)) (length (a .speeds)) (singles cs z) z begun-book begin-rel n (and-right t more both)) in
+      past-trans later (rw begin-state (begun-past (start-store file mvs initial queues a (groundsAt a) refl refl no-refusal) n))
 
   -- whatever the book had before
   begin-book : (b : Book) → refusal begin (groundsIn (length (a .words)) (length (a .speeds)) b) ≡ 0
@@ -129,7 +127,7 @@ kept-at r (suc k) l e = r .slots (suc k) l e
 -- ---- demand 3
 
 pub demand-3 : Demand3
-unfolding answers after
+unfolding answers after performAny enterAny
 demand-3 file mvs initial queues cs a b e =
     let words : ℕ = length (a .words) in
     let speeds : ℕ = length (a .speeds) in
@@ -137,12 +135,12 @@ demand-3 file mvs initial queues cs a b e =
     let b₀ : Book = started (networkOf file) (startCase (networkOf file) mvs initial queues) in
     let z₀ : Arrays = perform begin a .state in
     let r₀ : Rel words speeds z₀ b₀ = begin-rel file mvs initial queues a e in
-    let r : Rel words speeds (after perform cs z₀) (after (enter words speeds) cs b₀) = list-rel words speeds cs z₀ b₀ r₀ in
-    let s : Since (taken (begin ∷ cs) a) (after (enter words speeds) cs b₀) =
+    let r : Rel words speeds (after performAny cs z₀) (after (enterAny words speeds) cs b₀) = list-rel cs r₀ in
+    let s : Since (taken (singles (single begin ∷ cs) a) a) (after (enterAny words speeds) cs b₀) =
     rw (begin-taken file mvs initial queues a e cs) (list-since words speeds cs (begin ∷ []) z₀ b₀ r₀ (since-start [] file mvs initial queues)) in
     rw (begin-entered file mvs initial queues a e b)
     (record {
-      same-answers = λ i. begin-answer file mvs initial queues a e i ∷ list-answers words speeds cs z₀ b₀ r₀ i;
+      same-answers = λ i. begin-answer file mvs initial queues a e i ∷ list-answers cs r₀ i;
       network = r .network;
       cases = λ k l h. kept-at r k l h .is;
       marks = filled-view r;

@@ -11,6 +11,9 @@ pub mod Past
 pub mod Performing
 pub mod Places
 pub mod Rel
+pub mod Rows
+pub mod Runs
+pub mod RunSteps
 pub mod Sim
 pub mod SlotStores
 pub mod Sounds

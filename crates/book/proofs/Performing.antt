@@ -13,12 +13,12 @@ use Rattle.book.specs.Question.{refused, Answer}
 use Rattle.book.specs.Refusal.{refusal}
 use Rattle.book.specs.Perform.{Arrays, Outcome, unless, groundsAt, refusalAt, answerOf, perform, lent, Performs, stored}
 
-unless-refused : {S : Type 0} (m : ℕ) (before : S) (after : Outcome S) → (m ≡ 0 → ⊥) → unless m before after ≡ record { state = before; answer = refused m }
+pub unless-refused : {S : Type 0} (m : ℕ) (before : S) (after : Outcome S) → (m ≡ 0 → ⊥) → unless m before after ≡ record { state = before; answer = refused m }
 unfolding unless
 unless-refused zero before after some = absurd (some refl)
 unless-refused (suc m) before after some = refl
 
-unless-accepted : {S : Type 0} (m : ℕ) (before : S) (after : Outcome S) → m ≡ 0 → unless m before after ≡ after
+pub unless-accepted : {S : Type 0} (m : ℕ) (before : S) (after : Outcome S) → m ≡ 0 → unless m before after ≡ after
 unfolding unless
 unless-accepted m before after z = rw z
 

@@ -1,5 +1,5 @@
 -- One call: on arrays that hold what the book says it answers as the book answers, and leaves arrays that hold what the book then says.
-use Prim.Native.Nat.{ℕ, zero, suc, _-_}
+use Prim.Native.Nat.{ℕ, zero, suc}
 use mathlib.Core.Path.{_≡_, refl, ap}
 use mathlib.Core.Bool.{true, _||_}
 use mathlib.Core.List.{[], _∷_}

@@ -17,6 +17,7 @@ use Rattle.book.specs.Question.{questionNumber, figuresFor, figuresAsked
 use Rattle.book.specs.Refusal.{itemNumber, questionRefusal, refusal}
 use Rattle.book.specs.Perform.{unless, answerOf, answers}
 use Rattle.book.specs.Book.{started, entered, enter}
+use Rattle.book.specs.Run.{single, enterAny}
 use Rattle.book.specs.Worked.{workedCalls, workedAnswers, WorkedAnswered}
 use Rattle.book.proofs.Begun.{begun-answers}
 
@@ -51,14 +52,14 @@ chain-taken = refl
 
 -- what the book answers, whatever the cases of its lines are
 chain-in-book : (words speeds : ℕ)
-    → answers (enter words speeds) (workedCalls 3 (chain .steps)) (started (chain .network) (startCaseOf chain))
+    → answers (enterAny words speeds) (map single (workedCalls 3 (chain .steps))) (started (chain .network) (startCaseOf chain))
     ≡ answersWith (chain .steps) (figuresAlong (chain .network) (startCaseOf chain) [] (chain .steps))
-unfolding chain answersWith figuresAlong workedCalls answers enter entered unless refusal itemNumber questionRefusal questionNumber answerOf figuresAsked figuresFor stepsOf stepNumber arrivalNumber table row first firstOf anyOf
+unfolding chain answersWith figuresAlong workedCalls answers enterAny enter entered unless refusal itemNumber questionRefusal questionNumber answerOf figuresAsked figuresFor stepsOf stepNumber arrivalNumber table row first firstOf anyOf
 chain-in-book words speeds = refl
 
 pub chain-answered : WorkedAnswered chain
 unfolding chain
 chain-answered a many speeds-many =
-    begun-answers chainNetwork chain-within chain-formed (chain .mvs) (chain .speeds) (chain .queues) chain-taken a many speeds-many (workedCalls 3 (chain .steps))
+    begun-answers chainNetwork chain-within chain-formed (chain .mvs) (chain .speeds) (chain .queues) chain-taken a many speeds-many (map single (workedCalls 3 (chain .steps)))
     ∙ ap (λ (l : List Answer). accepted ∷ l)
     (chain-in-book (length (a .words)) (length (a .speeds)) ∙ ap (answersWith (chain .steps)) chain-holds ∙ answers-given (chain .steps))

@@ -7,6 +7,7 @@ use Rattle.book.specs.Arrangement.{networkAt, filledAt, caseAt}
 use Rattle.book.specs.Question.{CaseQuestion, ofCase}
 use Rattle.book.specs.Calls.{Call, start, hold, question, isStart, noCall, isDrop}
 use Rattle.book.specs.Perform.{Arrays, refusalAt, perform, after, taken}
+use Rattle.book.specs.Run.{CallOrRun, single, performAny, singles}
 
 -- the arrays x before a hold into slot k, y right after it and z after later calls
 pub record StaysAgreed (k : ℕ) (x y z : Arrays) : Type 0 where
@@ -18,12 +19,14 @@ pub record StaysAgreed (k : ℕ) (x y z : Arrays) : Type 0 where
   -- every question about it is answered the same
   pub answered : (q : CaseQuestion) → perform (question (ofCase k q)) z .answer ≡ perform (question (ofCase k q)) y .answer
 
--- after any accepted Start, any calls and an accepted hold into slot k: any calls, of which no Start and no drop of that slot is accepted
+-- after any accepted Start, any calls and runs and an accepted hold into slot k: any calls and runs, of which no Start and no drop of that
+-- slot is accepted
 abbrev pub AgreedCase : Type 0
 AgreedCase =
-    (file mvs speeds queues : List ℕ) (before later : List Call) (k : ℕ) (a : Arrays)
-    → (let x : Arrays = after perform (start file mvs speeds queues ∷ before) a in
+    (file mvs speeds queues : List ℕ) (before later : List CallOrRun) (k : ℕ) (a : Arrays)
+    → (let begin : Call = start file mvs speeds queues in
+    let x : Arrays = after performAny (single begin ∷ before) a in
     let y : Arrays = perform (hold k) x .state in
-    refusalAt (start file mvs speeds queues) a ≡ 0 → refusalAt (hold k) x ≡ 0
-    → noCall isStart (taken later y) ≡ true → noCall (isDrop k) (taken later y) ≡ true
-    → StaysAgreed k x y (after perform later y))
+    let h : List Call = taken (singles later y) y in
+    refusalAt begin a ≡ 0 → refusalAt (hold k) x ≡ 0 → noCall isStart h ≡ true → noCall (isDrop k) h ≡ true
+    → StaysAgreed k x y (after performAny later y))

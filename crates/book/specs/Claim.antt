@@ -1,4 +1,4 @@
--- Demand 3: one claim about any list of calls.
+-- Demand 3: one claim about any list of calls and runs.
 use Prim.Native.Nat.{ℕ, _+_}
 use mathlib.Core.Path.{_≡_}
 use mathlib.Core.Bool.{true}
@@ -15,8 +15,9 @@ use Rattle.book.specs.Arrangement.{wordsFor, speedsFor, networkAt, runCo
 use Rattle.book.specs.Sound.{sound}
 use Rattle.book.specs.Question.{Answer, accepted}
 use Rattle.book.specs.Calls.{Call, start, stepsIn, heldIn, isStart, noCall, bringsOver}
-use Rattle.book.specs.Perform.{Arrays, refusalAt, Performs, after, answers, taken, Outcome, perform}
-use Rattle.book.specs.Book.{Book, isFilled, enter, lineAt}
+use Rattle.book.specs.Perform.{Arrays, refusalAt, Performs, after, answers, taken, Outcome}
+use Rattle.book.specs.Book.{Book, isFilled, lineAt}
+use Rattle.book.specs.Run.{CallOrRun, single, run, PerformsRun, performAny, enterAny, singles}
 
 -- ---- the vehicles of the case c of the line l, from the start case begun with v mv handed to Start
 pub record Balanced (w : Network) (begun : Case) (v : ℕ) (l : Line) (c : Case) : Type 0 where
@@ -65,30 +66,33 @@ pub record Holds (a : Arrays) (xs : List Answer) (z : Arrays) (h : List Call) (y
   pub words-past : (m : ℕ) → noCall (bringsOver m) h ≡ true → drop (wordsFor m) (z .words) ≡ drop (wordsFor m) (a .words)
   pub speeds-past : (m : ℕ) → noCall (bringsOver m) h ≡ true → drop (speedsFor m) (z .speeds) ≡ drop (speedsFor m) (a .speeds)
 
--- the list cs on the arrays a, with the answers xs and the arrays z at its end, beside the book b, which is given the two lengths
-abbrev pub HoldsOf : List Call → Arrays → List Answer → Arrays → Book → Type 0
+-- the list cs on the arrays a, with the answers xs and the arrays z at its end, beside the book b, which is given the two lengths; a run
+-- in it is its steps, so those of its rows that were taken are among the accepted calls
+abbrev pub HoldsOf : List CallOrRun → Arrays → List Answer → Arrays → Book → Type 0
 HoldsOf cs a xs z b =
-    let call : Call → Book → Outcome Book = enter (length (a .words)) (length (a .speeds)) in
-    Holds a xs z (taken cs a) (answers call cs b) (after call cs b)
+    let call : CallOrRun → Book → Outcome Book = enterAny (length (a .words)) (length (a .speeds)) in
+    Holds a xs z (taken (singles cs a) a) (answers call cs b) (after call cs b)
 
--- for every list of calls that begins with a Start to which no refusal applies, on arrays of any content, whatever the book had before
+-- for every list of calls and runs that begins with a Start to which no refusal applies, on arrays of any content, whatever the book had
+-- before
 abbrev pub Demand3 : Type 0
 Demand3 =
-    (file mvs speeds queues : List ℕ) (cs : List Call) (a : Arrays) (b : Book)
+    (file mvs speeds queues : List ℕ) (cs : List CallOrRun) (a : Arrays) (b : Book)
     → refusalAt (start file mvs speeds queues) a ≡ 0
-    → (let all : List Call = start file mvs speeds queues ∷ cs in HoldsOf all a (answers perform all a) (after perform all a) b)
+    → (let all : List CallOrRun = single (start file mvs speeds queues) ∷ cs in HoldsOf all a (answers performAny all a) (after performAny all a) b)
 
 -- ---- the same of the functions
 
 -- the calls were made one after the other: each answered, and left the arrays to the next, as its contract says
-pub data Made : List Call → Arrays → List Answer → Arrays → Type 0 where
+pub data Made : List CallOrRun → Arrays → List Answer → Arrays → Type 0 where
   none-made : {a : Arrays} → Made [] a [] a
-  made-then : {c : Call} {cs : List Call} {a y z : Arrays} {x : Answer} {xs : List Answer}
-      → Performs c (a .words) (a .speeds) x (y .words) (y .speeds) → Made cs y xs z → Made (c ∷ cs) a (x ∷ xs) z
+  call-made : {c : Call} {cs : List CallOrRun} {a y z : Arrays} {x : Answer} {xs : List Answer}
+      → Performs c (a .words) (a .speeds) x (y .words) (y .speeds) → Made cs y xs z → Made (single c ∷ cs) a (x ∷ xs) z
+  run-made : {survey : List ℕ} {cs : List CallOrRun} {a y z : Arrays} {x : Answer} {xs : List Answer}
+      → PerformsRun survey (a .words) (a .speeds) x (y .words) (y .speeds) → Made cs y xs z → Made (run survey ∷ cs) a (x ∷ xs) z
 
 -- for all calls that were made, the first of them a Start that was accepted
 abbrev pub Demand3Made : Type 0
 Demand3Made =
-    (file mvs speeds queues : List ℕ) (cs : List Call) (a : Arrays) (xs : List Answer) (z : Arrays) (b : Book)
-    → Made (start file mvs speeds queues ∷ cs) a (accepted ∷ xs) z
-    → HoldsOf (start file mvs speeds queues ∷ cs) a (accepted ∷ xs) z b
+    (file mvs speeds queues : List ℕ) (cs : List CallOrRun) (a : Arrays) (xs : List Answer) (z : Arrays) (b : Book)
+    → (let all : List CallOrRun = single (start file mvs speeds queues) ∷ cs in Made all a (accepted ∷ xs) z → HoldsOf all a (accepted ∷ xs) z b)

@@ -4,8 +4,9 @@ pub mod Question
 pub mod Calls
 pub mod Refusal
 pub mod Perform
-pub mod Write
 pub mod Book
+pub mod Run
+pub mod Write
 pub mod Claim
 pub mod Agreed
 pub mod Example

@@ -114,19 +114,23 @@ perform c a =
     unless (refusalAt c a) a
     (record { state = stored c a; answer = answerOf c (networkAt (a .words)) (caseAt (a .words) (a .speeds)) (runCountAt (a .words)) })
 
--- what the contract of a callable function says: its answer, and both arrays afterwards, are what `perform` gives
-pub record Performs (c : Call) (words : List ℕ) (speeds : List Float) (answer : Answer) (words' : List ℕ) (speeds' : List Float) : Type 0 where
-  pub answers : answer ≡ perform c (lent words speeds) .answer
-  pub words-are : words' ≡ perform c (lent words speeds) .state .words
-  pub speeds-are : speeds' ≡ perform c (lent words speeds) .state .speeds
+-- what the contract of a callable function says: its answer, and both arrays afterwards, are this outcome
+pub record Gives (o : Outcome Arrays) (answer : Answer) (words : List ℕ) (speeds : List Float) : Type 0 where
+  pub answers : answer ≡ o .answer
+  pub words-are : words ≡ o .state .words
+  pub speeds-are : speeds ≡ o .state .speeds
+
+-- what `perform` gives
+abbrev pub Performs : Call → List ℕ → List Float → Answer → List ℕ → List Float → Type 0
+Performs c words speeds = Gives (perform c (lent words speeds))
 
 -- ---- a list of calls: each later call gets the state as the one before left it; call says what one does, on arrays or in the book
 
-unfoldable pub after : {S : Type 0} → (Call → S → Outcome S) → List Call → S → S
+unfoldable pub after : {C S : Type 0} → (C → S → Outcome S) → List C → S → S
 after call [] s = s
 after call (c ∷ cs) s = after call cs (call c s .state)
 
-unfoldable pub answers : {S : Type 0} → (Call → S → Outcome S) → List Call → S → List Answer
+unfoldable pub answers : {C S : Type 0} → (C → S → Outcome S) → List C → S → List Answer
 answers call [] s = []
 answers call (c ∷ cs) s = call c s .answer ∷ answers call cs (call c s .state)
 

@@ -52,6 +52,10 @@ pub data Answer : Type 0 where
   accepted : Answer
   figures : List ℕ → Answer
 
+-- the number that refused a call, or 0
+abbrev pub numberOf : Answer → ℕ
+numberOf = elim [ refused number ↦ number | accepted ↦ 0 | figures xs ↦ 0 ]
+
 -- what each function's answer says: steps, mv in segments, in queues, arrivals, exits, time
 abbrev pub caseSays : CaseReport → Answer
 caseSays (caseReport.Refused number) = refused number

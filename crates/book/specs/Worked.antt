@@ -9,7 +9,8 @@ use Rattle.metanet.specs.Worked.{WorkedStep, WorkedList, givenFigures}
 use Rattle.book.specs.Arrangement.{wordsFor, speedsFor}
 use Rattle.book.specs.Calls.{Call, start, item, question}
 use Rattle.book.specs.Question.{ofCase, totals, segment, Answer, accepted, figures}
-use Rattle.book.specs.Perform.{Arrays, perform, answers}
+use Rattle.book.specs.Perform.{Arrays, answers}
+use Rattle.book.specs.Run.{single, performAny}
 
 -- ---- the calls
 
@@ -35,4 +36,4 @@ abbrev pub WorkedAnswered : WorkedList → Type 0
 WorkedAnswered l =
     let n : ℕ = l .network .head .size in
     (a : Arrays) → wordsFor n ≤ length (a .words) → speedsFor n ≤ length (a .speeds)
-    → answers perform (startCall l ∷ workedCalls n (l .steps)) a ≡ accepted ∷ workedAnswers (l .steps)
+    → answers performAny (map single (startCall l ∷ workedCalls n (l .steps))) a ≡ accepted ∷ workedAnswers (l .steps)

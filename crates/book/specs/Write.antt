@@ -17,6 +17,7 @@ use Rattle.book.specs.Sound.{sound}
 use Rattle.book.specs.Question.{Answer, refused, figures}
 use Rattle.book.specs.Calls.{Call, start, isStart, noCall}
 use Rattle.book.specs.Perform.{Arrays, refusalAt, perform, after, taken}
+use Rattle.book.specs.Run.{CallOrRun, single, performAny, singles}
 
 -- 12 study not sound; 24 buffer too short
 unfoldable pub writeRefusal : List ℕ → List Float → List ℕ → ℕ
@@ -39,14 +40,16 @@ abbrev pub writtenSays : Written → Answer
 writtenSays (written.Refused number) = refused number
 writtenSays (written.Bytes size) = figures (size ∷ [])
 
--- an accepted network writes back to the file's bytes: after a Start to which no refusal applies, and any later calls none of which is
--- an accepted Start, Write into a buffer that is long enough gives the bytes of the file; later bytes stay
+-- an accepted network writes back to the file's bytes: after a Start to which no refusal applies, and any later calls and runs none of
+-- which is an accepted Start, Write into a buffer that is long enough gives the bytes of the file; later bytes stay
 abbrev pub StudyWritesBack : Type 0
 StudyWritesBack =
-    (file mvs speeds queues : List ℕ) (cs : List Call) (a : Arrays) (out : List ℕ)
-    → refusalAt (start file mvs speeds queues) a ≡ 0
-    → noCall isStart (taken cs (perform (start file mvs speeds queues) a .state)) ≡ true
+    (file mvs speeds queues : List ℕ) (cs : List CallOrRun) (a : Arrays) (out : List ℕ)
+    → (let begin : Call = start file mvs speeds queues in
+    let y : Arrays = perform begin a .state in
+    let z : Arrays = after performAny (single begin ∷ cs) a in
+    refusalAt begin a ≡ 0
+    → noCall isStart (taken (singles cs y) y) ≡ true
     → Bytes file
     → length file ≤ length out
-    → (let z : Arrays = after perform (start file mvs speeds queues ∷ cs) a in
-    writtenBytes (z .words) (z .speeds) out ≡ file ++ drop (length file) out)
+    → writtenBytes (z .words) (z .speeds) out ≡ file ++ drop (length file) out)

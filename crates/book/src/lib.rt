@@ -46,3 +46,9 @@ pub enum Written {
     Refused(u64),
     Bytes(u64),
 }
+
+// What a run answers: how many rows it took, and the number that stopped it, 0 if none.
+pub enum Ran {
+    Refused(u64),
+    Rows { taken: u64, stopped: u64 },
+}

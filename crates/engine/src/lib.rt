@@ -7,13 +7,14 @@ ghost use mathlib.Core.List.{[]};
 ghost use Rattle.laws.specs.First.{row};
 ghost use Rattle.format.specs.File.{fileNumber};
 ghost use Rattle.format.specs.Curve.{curveCallNumber};
+ghost use Rattle.survey_file.specs.Written.{writeNumber, writtenSurvey};
 ghost use Rattle.metanet.specs.declared.Setting.the-variants.{Open, Fixed, Alinea};
 ghost use Rattle.metanet.specs.Line.{signed, metered, stepped};
 ghost use Rattle.book.specs.Sound.{sound};
-ghost use Rattle.book.specs.Question.{totals, segment, ofCase, runCount};
+ghost use Rattle.book.specs.Question.{totals, segment, ofCase, runCount, numberOf};
 ghost use Rattle.book.specs.Calls.{start, item, hold, recall, dropSlot, question, verdictSays};
 ghost use Rattle.book.specs.Write.{writeRefusal, writtenBytes};
-ghost use Rattle.engine.specs.Study.{numberOf, toldNumber, toldWords, curvePlace, filePlace, Called};
+ghost use Rattle.engine.specs.Study.{toldNumber, toldWords, curvePlace, filePlace, Called, CalledRead, CalledRun};
 
 // The number that refuses a network file, and 0 where it is accepted.
 #[no_mangle]
@@ -54,6 +55,28 @@ pub extern "C" fn network_place(file: &[u8], place: &mut [u64]) -> u64
     let p = places::place_of(file);
     let four = [p.number, p.part as u64, p.rule, p.offset];
     report::put_figures(&four, place)
+}
+
+// ---- a survey file
+
+// Its arrivals for n segments into a list, its row count into figures[0].
+#[no_mangle]
+pub extern "C" fn survey_read(file: &[u8], n: u64, arrivals: &mut [u32], figures: &mut [u64]) -> u64
+    ensures { λ r. ⌜ CalledRead n (now (file .entry)) (now (arrivals .entry)) (now (figures .entry)) r (now (arrivals .exit)) (now (figures .exit)) ⌝ }
+{
+    if figures.len() < 1 {
+        return report::no_room(survey::number(file, n));
+    }
+    report::put_rows(survey::read(file, n, arrivals), figures)
+}
+
+// The file of a list of arrivals, rows of n, from the buffer's first byte on; later bytes stay.
+#[no_mangle]
+pub extern "C" fn survey_write(n: u64, arrivals: &[u32], out: &mut [u8]) -> u64
+    ensures { λ r. ⌜ r ≡ writeNumber n (now (arrivals .entry)) (now (out .entry)) ⌝ }
+    ensures { λ _. ⌜ now (out .exit) ≡ writtenSurvey n (now (arrivals .entry)) (now (out .entry)) ⌝ }
+{
+    survey::write(n, arrivals, out)
 }
 
 // ---- a study; docs/ARRANGEMENT.md says where it stands in the two arrays
@@ -157,6 +180,23 @@ pub extern "C" fn study_step(words: &mut [u64], speeds: &mut [f64], arrivals: &[
     number_of(study::step(words, speeds, arrivals))
 }
 
+// The rows of a survey file as steps of the live case: rows taken and the number that stopped them, or 0, into figures[0] and [1].
+// Without room for the two no row is taken.
+#[no_mangle]
+pub extern "C" fn study_run(
+    words: &mut [u64],
+    speeds: &mut [f64],
+    file: &[u8],
+    figures: &mut [u64],
+) -> u64
+    ensures { λ r. ⌜ CalledRun (now (file .entry)) (now (words .entry)) (now (speeds .entry)) (now (figures .entry)) r (now (words .exit)) (now (speeds .exit)) (now (figures .exit)) ⌝ }
+{
+    if figures.len() < 2 {
+        return report::no_room(refusal::calls::run_number(words, speeds, file));
+    }
+    report::put_run(study::run(words, speeds, file), figures)
+}
+
 // The live case into a slot.
 #[no_mangle]
 pub extern "C" fn study_hold(words: &mut [u64], speeds: &mut [f64], slot: u64) -> u64
@@ -208,7 +248,7 @@ pub extern "C" fn study_report_segment(
 pub extern "C" fn study_run_count(words: &[u64], speeds: &[f64], figures: &mut [u64]) -> u64
     ensures { λ r. ⌜ Called (question runCount) (now (words .entry)) (now (speeds .entry)) (now (figures .entry)) r (now (words .entry)) (now (speeds .entry)) (now (figures .exit)) ⌝ }
 {
-    report::put_runs(reports::run_count(words, speeds), figures)
+    report::put_run_count(reports::run_count(words, speeds), figures)
 }
 
 // Writes the study's network as a file from the buffer's first byte on; later bytes stay.

@@ -1,7 +1,19 @@
 // Figures put into lent words.
 ghost use mathlib.Core.Path.{_≡_};
+ghost use Rattle.laws.specs.First.{first};
 ghost use Rattle.book.specs.Question.{figures, caseSays, segmentSays, runSays};
-ghost use Rattle.engine.specs.Study.{toldNumber, toldWords};
+ghost use Rattle.book.specs.Run.{ranSays};
+ghost use Rattle.engine.specs.Study.{toldNumber, toldWords, surveySays};
+
+// The number of a call whose figures have no room: 24 where nothing else refuses it.
+pub(crate) fn no_room(number: u64) -> u64
+    ensures { λ r. ⌜ r ≡ first number 24 ⌝ }
+{
+    if number != 0 {
+        return number;
+    }
+    24
+}
 
 // 24 where out is shorter than the values, with out as it came, or 0.
 pub(crate) fn put_figures(values: &[u64], out: &mut [u64]) -> u64
@@ -49,7 +61,7 @@ pub(crate) fn put_segment(report: book::SegmentReport, out: &mut [u64]) -> u64
     }
 }
 
-pub(crate) fn put_runs(report: book::RunReport, out: &mut [u64]) -> u64
+pub(crate) fn put_run_count(report: book::RunReport, out: &mut [u64]) -> u64
     ensures { λ r. ⌜ r ≡ toldNumber (runSays report) (now (out .entry)) ⌝ }
     ensures { λ _. ⌜ now (out .exit) ≡ toldWords (runSays report) (now (out .entry)) ⌝ }
 {
@@ -58,6 +70,32 @@ pub(crate) fn put_runs(report: book::RunReport, out: &mut [u64]) -> u64
         book::RunReport::Count(runs) => {
             let one = [runs];
             put_figures(&one, out)
+        }
+    }
+}
+
+pub(crate) fn put_rows(report: survey_file::Survey, out: &mut [u64]) -> u64
+    ensures { λ r. ⌜ r ≡ toldNumber (surveySays report) (now (out .entry)) ⌝ }
+    ensures { λ _. ⌜ now (out .exit) ≡ toldWords (surveySays report) (now (out .entry)) ⌝ }
+{
+    match report {
+        survey_file::Survey::Refused(number) => number,
+        survey_file::Survey::Rows(rows) => {
+            let one = [rows];
+            put_figures(&one, out)
+        }
+    }
+}
+
+pub(crate) fn put_run(report: book::Ran, out: &mut [u64]) -> u64
+    ensures { λ r. ⌜ r ≡ toldNumber (ranSays report) (now (out .entry)) ⌝ }
+    ensures { λ _. ⌜ now (out .exit) ≡ toldWords (ranSays report) (now (out .entry)) ⌝ }
+{
+    match report {
+        book::Ran::Refused(number) => number,
+        book::Ran::Rows { taken, stopped } => {
+            let two = [taken, stopped];
+            put_figures(&two, out)
         }
     }
 }

@@ -1,11 +1,11 @@
 -- The network file: where each number stands in its bytes, and the rows of the table that refuse it, in their order.
 use Prim.Native.Nat.{ℕ, _+_, _*_}
-use mathlib.Core.Bool.{Bool, _||_, _&&_, not}
+use mathlib.Core.Bool.{Bool, _||_, not}
 use mathlib.Core.List.{List, [], _∷_}
-use lib.ListN.{length, getD}
+use lib.ListN.{length}
 use lib.Dec.{ltb, eqb}
 use Rattle.laws.specs.First.{row, first, firstOf}
-use Rattle.laws.specs.BigEndian.{byteAt, u16At, u32At}
+use Rattle.laws.specs.BigEndian.{byteAt, u16At, u32At, beginsWith}
 use Rattle.format.specs.declared.Head.{Head}
 use Rattle.format.specs.declared.Segment.{Segment}
 use Rattle.format.specs.Network.{Network, networkFrom, headBad, curveNumber, segmentBad, fieldThenSpeed}
@@ -17,7 +17,7 @@ abbrev pub mark : List ℕ
 mark = 70 ∷ 87 ∷ 78 ∷ []
 
 abbrev pub hasMark : List ℕ → Bool
-hasMark b = eqb (byteAt b 0) (getD mark 0 0) && eqb (byteAt b 1) (getD mark 1 0) && eqb (byteAt b 2) (getD mark 2 0)
+hasMark = beginsWith mark
 
 -- 5 T; 6 n; 7 curve count c; 8 τ; 9 ν; 10 κ; 12–13 δ
 abbrev pub headOf : List ℕ → Head

@@ -1,6 +1,7 @@
 // What an accepted file holds.
 use crate::print;
 use crate::record;
+use arrays::number;
 
 fn head(h: format::Head) {
     print::told(b"accepted: T ", h.step, b" s");
@@ -61,6 +62,6 @@ fn segments(file: &[u8], n: u32) {
 
 pub(crate) fn summary(file: &[u8]) {
     head(network::head_of(file));
-    curves(file, network::byte_of(file, 7) as u32);
-    segments(file, network::byte_of(file, 6) as u32);
+    curves(file, number::byte_at(file, 7) as u32);
+    segments(file, number::byte_at(file, 6) as u32);
 }

@@ -1,5 +1,6 @@
 // The fields of the head, by the rules of row 4.
 use crate::print;
+use arrays::number;
 ghost use mathlib.Core.Path.{_≡_};
 ghost use lib.ListN.{getD};
 ghost use Rattle.inspect.specs.Values.{headValues};
@@ -43,9 +44,9 @@ fn value(file: &[u8], rule: u64) -> u64
         h.nu,
         h.kappa,
         h.delta,
-        network::byte_of(file, 11),
-        network::byte_of(file, 14),
-        network::byte_of(file, 15),
+        number::byte_at(file, 11),
+        number::byte_at(file, 14),
+        number::byte_at(file, 15),
     ];
     if rule < 10 {
         return values[rule as usize];

@@ -2,35 +2,29 @@
 use crate::head;
 use crate::print;
 use crate::record;
+use arrays::number;
 ghost use mathlib.Core.Path.{_≡_};
 ghost use lib.Dec.{ltb};
 ghost use Rattle.laws.specs.First.{row};
-ghost use Rattle.laws.specs.BigEndian.{byteAt};
 ghost use Rattle.format.specs.File.{entryOn};
 
-// The byte at a place, and 0 past any file that is read.
-fn byte(file: &[u8], at: u64) -> u64
-    ensures { λ r. ⌜ r ≡ row (ltb at 65536) (byteAt (now (file .entry)) at) 0 ⌝ }
-{
-    if at < 65536 {
-        return network::byte_of(file, at as u32);
-    }
-    0
-}
-
 fn mark(file: &[u8], at: u64) {
-    print::told(b"mark: ", byte(file, at), b", must be 70 87 78, \"FWN\"");
+    print::told(
+        b"mark: ",
+        number::byte_at(file, at as usize),
+        b", must be 70 87 78, \"FWN\"",
+    );
 }
 
 fn version(file: &[u8]) {
-    let high = network::byte_of(file, 3);
-    let low = network::byte_of(file, 4);
+    let high = number::byte_at(file, 3);
+    let low = number::byte_at(file, 4);
     print::told(b"version: ", high * 256 + low, b", must be 1");
 }
 
 fn length(file: &[u8]) {
-    let c = network::byte_of(file, 7);
-    let n = network::byte_of(file, 6);
+    let c = number::byte_at(file, 7);
+    let n = number::byte_at(file, 6);
     print::told(b"length: ", file.len() as u64, b" bytes");
     if 65535 < file.len() {
         print::say(b" or more");
@@ -95,7 +89,12 @@ fn what(file: &[u8], p: format::Place) {
         4 => head::tell(file, p.rule),
         5 => length(file),
         6 => curve(file, p.part, p.rule),
-        7 => record::tell(file, p.part, p.rule, byte(file, p.offset)),
+        7 => record::tell(
+            file,
+            p.part,
+            p.rule,
+            number::byte_at(file, p.offset as usize),
+        ),
         _ => speed(file, p.part),
     }
 }

@@ -1,4 +1,4 @@
--- No mv is made or lost in a step, and the new figures are within what was there and came. For any number of segments.
+-- No mv is made or lost in a step, and the new figures are within 10¹² where all mv are. For any number of segments.
 use Prim.Native.Nat.{ℕ, zero, suc, _+_, _≤_, _<_}
 use native.Mathlib.Omega.{arith}
 use mathlib.Core.Path.{_≡_, refl, ap}
@@ -13,8 +13,9 @@ use Rattle.metanet.specs.declared.SegmentState.{SegmentState}
 use Rattle.metanet.specs.Case.{noState, stateOf}
 use Rattle.metanet.specs.Speed.{newSpeed}
 use Rattle.metanet.specs.Step.{newState, outflowNow, through, inflow, freeSpeed, stepState, stepStates, exitNow, exitsNow, vehiclesIn}
+use Rattle.metanet.specs.Sound.{mvMost}
 use Rattle.metanet.proofs.Ready.{SegmentOk, StateOk}
-use Rattle.metanet.proofs.SegmentLaws.{Within, keep-within, release-waits, outflow-at-most-count, exit-le}
+use Rattle.metanet.proofs.SegmentLaws.{Within, keep-within, rate-high, release-waits, release-at-most-rate, outflow-at-most-count, exit-le}
 use Rattle.metanet.specs.declared.Flows.{Flows}
 
 -- the figures of a state that are mv
@@ -69,27 +70,25 @@ module _ (h : Head) (entry : ℕ → ℕ → ℕ) (segment : ℕ → Segment) (s
   pub balance : sumOf (vehiclesIn (stepStates h entry segment states t ds)) (h .size) + exitsNow h entry segment states ≡ sumOf (vehiclesIn states) (h .size) + sumOf (λ i. getD ds i 0) (h .size)
   balance = omega (arith, held-new, below (h .size) (omega arith))
 
-  -- what was there and came
-  abbrev all : ℕ
-  all = sumOf (vehiclesIn states) (h .size) + sumOf (λ i. getD ds i 0) (h .size)
+  abbrev held : ℕ
+  held = sumOf (vehiclesIn (stepStates h entry segment states t ds)) (h .size)
 
-  -- every figure of a new state is at most that
-  new-figures : (most i : ℕ) → all ≤ most → i < h .size → FiguresWithin (new i) most
+  -- every figure of a new state is at most 10¹² where all that is held after the step is: no more flows out than was there, and no more is
+  -- released than Q
+  new-figures : (i : ℕ) → held ≤ mvMost → i < h .size → FiguresWithin (new i) mvMost
   unfolding stepState newState
-  new-figures most i high l =
-      let total = below (h .size) (omega arith) in
-      let after = sum-term (λ i. new i .count + new i .queue) (h .size) i l in
-      let before = sum-term (vehiclesIn states) (h .size) i l in
-      let came = sum-term (λ i. getD ds i 0) (h .size) i l in
+  new-figures i high l =
+      let there = sum-term (λ i. new i .count + new i .queue) (h .size) i l in
+      let rate = rate-high (segment i) (row i l .ramp) (stateOf states i .count) t in
       record {
-        count = omega (arith, high, total, after);
-        queue = omega (arith, high, total, after);
+        count = omega (arith, high, held-new, there);
+        queue = omega (arith, high, held-new, there);
         flows =
             record {
-              outflow = omega (arith, high, before, outflow-at-most-count (ok i l) (row i l));
-              release = omega (arith, high, before, came, release-waits (ok i l) (row i l) t (getD ds i 0));
+              outflow = omega (arith, row i l .count, outflow-at-most-count (ok i l) (row i l));
+              release = omega (arith, rate, ok i l .most-high, release-at-most-rate (segment i) (stateOf states i) t (getD ds i 0));
             };
       }
 
-  pub figures-within : (most i : ℕ) → all ≤ most → i < h .size → FiguresWithin (stateOf (stepStates h entry segment states t ds) i) most
-  figures-within most i high l = rw (new-is i l) (new-figures most i high l)
+  pub figures-within : (i : ℕ) → held ≤ mvMost → i < h .size → FiguresWithin (stateOf (stepStates h entry segment states t ds) i) mvMost
+  figures-within i high l = rw (new-is i l) (new-figures i high l)

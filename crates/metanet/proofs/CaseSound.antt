@@ -4,7 +4,7 @@ use mathlib.Core.Path.{_≡_, _∙_}
 use mathlib.Core.Bool.{Bool, false, _||_}
 use mathlib.Core.List.{List, [], _∷_}
 use borrow.Author.Tests.{ltb-false, le-ltb}
-use Rattle.laws.specs.First.{anyOf}
+use Rattle.laws.specs.First.{anyOf, firstOf}
 use Rattle.laws.specs.Sums.{sumOf}
 use Rattle.laws.proofs.First.{row-passed, row-skipped, first-zero, first-zero-left, firstOf-zero, firstOf-all}
 use Rattle.laws.proofs.Tests.{anyOf-false}
@@ -57,15 +57,19 @@ module _ (h : Head) (entry : ℕ → ℕ → ℕ) (segment : ℕ → Segment) wh
   unfolding caseNumber stateNumber
   case-state c z i l = state-says _ _ _ _ (row-passed _ _ _ (firstOf-zero (stateNumber h entry segment (c .states)) (h .size) (first-zero-left _ _ z) i l))
 
+  pub states-zero : (states : List SegmentState) → ((i : ℕ) → i < h .size → SoundAt states i) → firstOf (stateNumber h entry segment states) (h .size) ≡ 0
+  unfolding stateNumber
+  states-zero states each = firstOf-all (stateNumber h entry segment states) (h .size) (λ i l. row-skipped _ _ _ (state-sound _ _ _ _ (each i l)))
+
   pub case-sound : (c : Case) → ((i : ℕ) → i < h .size → SoundAt (c .states) i) → sumOf (vehiclesIn (c .states)) (h .size) ≤ 1000000000000
       → c .steps ≤ 20000 → c .arrivals ≤ 1000000000000 → c .exits ≤ 1000000000000 → c .time ≤ 1000000000000000000
       → caseNumber h entry segment c ≡ 0
-  unfolding caseNumber stateNumber totalsBad anyOf
+  unfolding caseNumber totalsBad anyOf
   case-sound c states held steps arrivals exits time =
       let held = le-ltb mvMost (sumOf (vehiclesIn (c .states)) (h .size)) held in
       let steps = le-ltb stepsMost (c .steps) steps in
       let arrivals = le-ltb mvMost (c .arrivals) arrivals in
       let exits = le-ltb mvMost (c .exits) exits in
       let time = le-ltb timeMost (c .time) time in
-      first-zero _ _ (firstOf-all (stateNumber h entry segment (c .states)) (h .size) (λ i l. row-skipped _ _ _ (state-sound _ _ _ _ (states i l))))
+      first-zero _ _ (states-zero (c .states) states)
       ∙ row-skipped _ _ _ (λ j. anyOf (held j ∷ arrivals j ∷ exits j ∷ time j ∷ steps j ∷ []))

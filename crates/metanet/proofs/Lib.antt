@@ -20,6 +20,7 @@ pub mod SegmentLaws
 pub mod SoundLaws
 pub mod StateWords
 pub mod Statements
+pub mod StepSound
 pub mod Turns
 pub mod Worked
 pub mod Written

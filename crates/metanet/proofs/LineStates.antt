@@ -42,7 +42,7 @@ module _ {w : Network} {s : Case} {l : Line} (g : Good w s l) where
   abbrev c : Case
   c = caseOf w s l
 
-  pub old-state : (j : ℕ) → j < w .head .size → SoundAt (w .head) (entryOf w) (segmentOf w) (c .states) j
+  old-state : (j : ℕ) → j < w .head .size → SoundAt (w .head) (entryOf w) (segmentOf w) (c .states) j
   old-state = case-state (w .head) (entryOf w) (segmentOf w) c (g .is-sound)
 
   module _ (k : ℕ) (r : SegmentState) (here : k < w .head .size) (same : r .count + r .queue ≡ vehiclesIn (c .states) k)

@@ -59,6 +59,11 @@ rate-high s {r} R n t = pick (eqb (r .kind) alineaKind && eqb (t % r .interval) 
     pick false true = omega arith
     pick false false = R .rate
 
+-- and no more is released than the rate
+pub release-at-most-rate : (s : Segment) (r : SegmentState) (t d : ℕ) → releaseNow s r t d ≤ rampNow s (r .count) (r .ramp) t .rate
+unfolding releaseNow rampNow
+release-at-most-rate s r t d = omega arith
+
 -- ---- no more leaves than is there
 
 -- no more leaves by the exit than flows out

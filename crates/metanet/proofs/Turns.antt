@@ -100,7 +100,7 @@ module _ {ws : List ℕ} {vs : List Float} {ds : List ℕ} {at from n : ℕ} (ok
     pub lengths : (length words ≡ length ws) × (length speeds ≡ length vs)
     lengths = (same-words, same-speeds)
 
-    net-same : netOf words ≡ netOf ws
+    pub net-same : netOf words ≡ netOf ws
     net-same =
         sym (take-take 2560 at words (ok .past))
         ∙ ap (take 2560) (ap (take at) (u .words-are) ∙ take-puts 16 (state-words t) at n ws (words-each t) (ok .room) i)

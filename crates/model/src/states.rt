@@ -33,6 +33,7 @@ pub(crate) fn step_states(
     requires { ⌜ Ready (now words) (now speeds) (now arrivals) at from n ⌝ }
     ensures { λ r. ⌜ Stepped (now (words .entry)) (now (speeds .entry)) (now (arrivals .entry)) at from n t (now (words .exit)) (now (speeds .exit)) r ⌝ }
 {
+    let h = network_words::kept_head(&words[..network_words::NETWORK_WORDS]);
     let mut i: usize = 0;
     let mut before = speeds[from];
     let mut passed: u64 = 0;
@@ -43,7 +44,7 @@ pub(crate) fn step_states(
         let b = from + i;
         let v = speeds[b];
         let d = arrivals[i] as u64;
-        let r = state::new_state_in(words, a, v, d, i, n, t, passed, before);
+        let r = state::new_state_in(words, h, a, v, d, i, n, t, passed, before);
         let flows = r.flows;
         passed = state::pass_on(words, i, flows.outflow);
         left = left + (flows.outflow - passed);

@@ -1,6 +1,6 @@
 // A curve's 201 entries in the file: row 6.
-use crate::number;
 use crate::rows;
+use arrays::number;
 ghost use mathlib.Core.Path.{_≡_};
 ghost use Prim.Native.Nat.{_+_, _*_, _<_, _≤_};
 ghost use lib.ListN.{length};

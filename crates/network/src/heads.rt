@@ -1,6 +1,6 @@
 // The head, 16 bytes: rows 1 to 5.
-use crate::number;
 use crate::rows;
+use arrays::number;
 ghost use mathlib.Core.Path.{_≡_};
 ghost use Prim.Native.Nat.{_≤_};
 ghost use lib.ListN.{length};

@@ -1,15 +1,14 @@
 // The network file: read or refused by a number, its curves shown as the file's own bytes.
-pub mod number; // number.rt: big-endian numbers in bytes
 pub mod rows; // rows.rt: rows 4, 6, 7 and 8 of a network's numbers
 mod heads; // heads.rt: the first 16 bytes, rows 1 to 5
 mod curves; // curves.rt: a curve's entries, row 6
 mod records; // records.rt: a segment's 16 bytes, rows 7 and 8
 
+use arrays::number;
 use format::Head;
 use format::Segment;
 ghost use mathlib.Core.Path.{_≡_};
 ghost use Prim.Native.Nat.{_<_};
-ghost use Rattle.laws.specs.BigEndian.{byteAt};
 ghost use Rattle.format.specs.File.{headOf, entryOn, segmentOn, fileNumber};
 ghost use Rattle.format.specs.Curve.{curveCallNumber, curveBytes};
 
@@ -55,13 +54,6 @@ pub fn curve(file: &[u8], k: u64) -> &[u8]
     }
     let at = 16 + 804 * (k as usize);
     &file[at..at + 804]
-}
-
-// Byte i of a file; past its end it reads as 0.
-pub fn byte_of(file: &[u8], i: u32) -> u64
-    ensures { λ r. ⌜ (r ≡ byteAt (now (file .entry)) i) × (r < 256) ⌝ }
-{
-    number::byte_at(file, i as usize)
 }
 
 // The head of a file of any content; a byte past its end reads as 0.

@@ -1,7 +1,7 @@
 // A segment's record, 16 bytes: rows 7 and 8.
 use crate::curves;
-use crate::number;
 use crate::rows;
+use arrays::number;
 use format::Head;
 use format::Segment;
 ghost use mathlib.Core.Path.{_≡_};

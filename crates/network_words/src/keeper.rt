@@ -1,7 +1,7 @@
 // The parts of a file's network, written into words.
+use arrays::number;
 use format::Head;
 use format::Segment;
-use network::number;
 ghost use mathlib.Core.Path.{_≡_};
 ghost use Prim.Native.Nat.{_+_, _*_, _≤_};
 ghost use mathlib.Core.List.{_++_};

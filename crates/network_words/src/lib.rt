@@ -6,7 +6,7 @@ mod keeper; // keeper.rt: the parts of a file's network, written into words
 use format::Head;
 use format::Segment;
 ghost use mathlib.Core.Path.{_≡_};
-ghost use Prim.Native.Nat.{_≤_};
+ghost use Prim.Native.Nat.{_<_, _≤_};
 ghost use mathlib.Core.List.{_++_};
 ghost use lib.ListN.{length, getD, drop};
 ghost use Rattle.format.specs.File.{fileNumber, networkOf};
@@ -55,6 +55,14 @@ pub fn kept_segment(kept: &[u64], i: u32) -> Segment
         exit: word_at(kept, at + 6),
         most: word_at(kept, at + 7),
     }
+}
+
+// Whether segment i has an origin, without a test of the length: every row of a run asks for all.
+pub fn kept_origin(kept: &[u64], i: usize) -> u64
+    requires { ⌜ (i < 40) × (2560 ≤ length (now kept)) ⌝ }
+    ensures { λ r. ⌜ r ≡ segmentIn (now (kept .entry)) i .origin ⌝ }
+{
+    kept[1624 + 16 * i + 5]
 }
 
 // Entry j of curve k of the network kept in words of any content.

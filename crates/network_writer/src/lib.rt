@@ -1,8 +1,9 @@
 // A network kept in words, written back as the bytes of its file.
+use arrays::number;
 use format::Head;
 use format::Segment;
 ghost use mathlib.Core.Path.{_≡_};
-ghost use Prim.Native.Nat.{_+_, _*_, _%_, _≤_};
+ghost use Prim.Native.Nat.{_+_, _*_, _≤_};
 ghost use mathlib.Core.List.{_++_};
 ghost use lib.ListN.{length, getD, drop};
 ghost use Rattle.laws.specs.Lists.{puts};
@@ -10,13 +11,6 @@ ghost use Rattle.laws.specs.BigEndian.{u32Bytes};
 ghost use Rattle.format.specs.Written.{headBytes, segmentBytes, fileOf};
 ghost use Rattle.format.specs.Words.{headIn, segmentIn, networkIn, keptNumber};
 ghost use Rattle.format.specs.File.{fileSize};
-
-// The lowest byte of x.
-fn low(x: u64) -> u8
-    ensures { λ r. ⌜ r ≡ x % 256 ⌝ }
-{
-    (x % 256) as u8
-}
 
 fn head_bytes(h: Head) -> [u8; 16]
     ensures { λ r. ⌜ r ≡ headBytes h ⌝ }
@@ -28,15 +22,15 @@ fn head_bytes(h: Head) -> [u8; 16]
         mark[2],
         0,
         1,
-        low(h.step),
-        low(h.size),
-        low(h.curves),
-        low(h.tau),
-        low(h.nu),
-        low(h.kappa),
+        number::low(h.step),
+        number::low(h.size),
+        number::low(h.curves),
+        number::low(h.tau),
+        number::low(h.nu),
+        number::low(h.kappa),
         0,
-        low(h.delta / 256),
-        low(h.delta),
+        number::low(h.delta / 256),
+        number::low(h.delta),
         0,
         0,
     ]
@@ -46,29 +40,23 @@ fn segment_bytes(s: Segment) -> [u8; 16]
     ensures { λ r. ⌜ r ≡ segmentBytes s ⌝ }
 {
     [
-        low(s.metres / 256),
-        low(s.metres),
-        low(s.lanes),
-        low(s.curve),
-        low(s.critical),
-        low(s.jam),
-        low(s.origin),
+        number::low(s.metres / 256),
+        number::low(s.metres),
+        number::low(s.lanes),
+        number::low(s.curve),
+        number::low(s.critical),
+        number::low(s.jam),
+        number::low(s.origin),
         0,
-        low(s.exit / 256),
-        low(s.exit),
-        low(s.most / 16777216),
-        low(s.most / 65536),
-        low(s.most / 256),
-        low(s.most),
+        number::low(s.exit / 256),
+        number::low(s.exit),
+        number::low(s.most / 16777216),
+        number::low(s.most / 65536),
+        number::low(s.most / 256),
+        number::low(s.most),
         0,
         0,
     ]
-}
-
-fn entry_bytes(e: u64) -> [u8; 4]
-    ensures { λ r. ⌜ r ≡ u32Bytes e ⌝ }
-{
-    [low(e / 16777216), low(e / 65536), low(e / 256), low(e)]
 }
 
 // Each of these writes over the first bytes of the part that it is lent.
@@ -88,14 +76,6 @@ fn put_segment(out: &mut [u8], s: Segment)
     bytes::copy(&record, out);
 }
 
-fn put_entry(out: &mut [u8], e: u64)
-    requires { ⌜ 4 ≤ length (now out) ⌝ }
-    ensures { λ _. ⌜ now (out .exit) ≡ u32Bytes e ++ drop 4 (now (out .entry)) ⌝ }
-{
-    let entry = entry_bytes(e);
-    bytes::copy(&entry, out);
-}
-
 // Writes count entries, which stand in the words from 16 on, at byte 16 of the file.
 fn put_entries(kept: &[u64], count: usize, out: &mut [u8])
     requires { ⌜ (16 + count ≤ length (now kept)) × (count ≤ 1608) × (16 + 4 * count ≤ length (now out)) ⌝ }
@@ -104,7 +84,7 @@ fn put_entries(kept: &[u64], count: usize, out: &mut [u8])
     let mut j = 0;
     while j < count {
         let at = 16 + 4 * j;
-        put_entry(&mut out[at..at + 4], kept[16 + j]);
+        number::put_u32(&mut out[at..at + 4], kept[16 + j]);
         j += 1;
     }
 }

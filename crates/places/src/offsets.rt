@@ -1,6 +1,7 @@
 // Part, rule and byte of a refusal, by the number that refuses.
 use crate::rules;
 use crate::search;
+use arrays::number;
 ghost use mathlib.Core.Path.{_≡_};
 ghost use Prim.Native.Nat.{_≤_};
 ghost use Rattle.format.specs.File.{headOf, fileSize};
@@ -40,7 +41,7 @@ pub(crate) fn rule(file: &[u8], number: u64, part: u32) -> u64
 fn size_said(file: &[u8]) -> u64
     ensures { λ r. ⌜ r ≡ fileSize (headOf (now (file .entry))) ⌝ }
 {
-    16 + 804 * network::byte_of(file, 7) + 16 * network::byte_of(file, 6)
+    16 + 804 * number::byte_at(file, 7) + 16 * number::byte_at(file, 6)
 }
 
 // Rows 1 to 5.

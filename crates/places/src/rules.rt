@@ -1,4 +1,5 @@
 // The rules of rows 2, 4 and 7, one by one, in the order of their definitions, and the first that is broken.
+use arrays::number;
 ghost use mathlib.Core.Path.{_≡_};
 ghost use Prim.Native.Nat.{_<_, _≤_};
 ghost use mathlib.Core.List.{[], _∷_, _++_};
@@ -29,9 +30,9 @@ pub(crate) fn mark_rule(file: &[u8]) -> u64
     ensures { λ r. ⌜ r ≡ firstHeld (markRules (now (file .entry))) ⌝ }
 {
     let rules = [
-        network::byte_of(file, 0) != 70,
-        network::byte_of(file, 1) != 87,
-        network::byte_of(file, 2) != 78,
+        number::byte_at(file, 0) != 70,
+        number::byte_at(file, 1) != 87,
+        number::byte_at(file, 2) != 78,
     ];
     first_held(&rules)
 }
@@ -59,9 +60,9 @@ pub(crate) fn head_rule(file: &[u8]) -> u64
     ensures { λ r. ⌜ r ≡ firstHeld (headRules (now (file .entry))) ⌝ }
 {
     let h = network::head_of(file);
-    let z11 = network::byte_of(file, 11);
-    let z14 = network::byte_of(file, 14);
-    let z15 = network::byte_of(file, 15);
+    let z11 = number::byte_at(file, 11);
+    let z14 = number::byte_at(file, 14);
+    let z15 = number::byte_at(file, 15);
     let rules = head_rules(h, z11, z14, z15);
     first_held(&rules)
 }
@@ -82,7 +83,7 @@ pub(crate) fn record_start(file: &[u8], i: u32) -> u64
     requires { ⌜ i ≤ 40 ⌝ }
     ensures { λ r. ⌜ (r ≡ recordStart (headOf (now (file .entry))) i) × (r < 300000) ⌝ }
 {
-    16 + 804 * network::byte_of(file, 7) + 16 * (i as u64)
+    16 + 804 * number::byte_at(file, 7) + 16 * (i as u64)
 }
 
 // Whether each rule of record i is broken, with its bytes 7, 14 and 15.
@@ -122,10 +123,10 @@ pub(crate) fn record_rule(file: &[u8], i: u32) -> u64
     requires { ⌜ i ≤ 40 ⌝ }
     ensures { λ r. ⌜ r ≡ firstHeld (recordRules (now (file .entry)) i) ⌝ }
 {
-    let at = record_start(file, i) as u32;
-    let z7 = network::byte_of(file, at + 7);
-    let z14 = network::byte_of(file, at + 14);
-    let z15 = network::byte_of(file, at + 15);
+    let at = record_start(file, i) as usize;
+    let z7 = number::byte_at(file, at + 7);
+    let z14 = number::byte_at(file, at + 14);
+    let z15 = number::byte_at(file, at + 15);
     let h = network::head_of(file);
     let s = network::segment_of(file, i);
     let rules = record_rules(h, i as u64, s, z7, z14, z15);

@@ -1,5 +1,6 @@
 // The first entry and the first record of a file that are refused.
 use crate::rules;
+use arrays::number;
 ghost use mathlib.Core.Path.{_≡_};
 ghost use Prim.Native.Nat.{_≤_};
 ghost use lib.Dec.{ltb};
@@ -37,10 +38,10 @@ fn too_short(file: &[u8], i: u32) -> bool
     requires { ⌜ i ≤ 40 ⌝ }
     ensures { λ r. ⌜ r ≡ tooShort (now (file .entry)) i ⌝ }
 {
-    let at = rules::record_start(file, i) as u32;
-    let metres = network::byte_of(file, at) * 256 + network::byte_of(file, at + 1);
-    let k = network::byte_of(file, at + 3) as u32;
-    let step = network::byte_of(file, 5);
+    let at = rules::record_start(file, i) as usize;
+    let metres = number::byte_at(file, at) * 256 + number::byte_at(file, at + 1);
+    let k = number::byte_at(file, at + 3) as u32;
+    let step = number::byte_at(file, 5);
     3600 * metres < network::entry_of(file, k, 0) * step
 }
 

@@ -1,20 +1,20 @@
 -- Step: which row refuses it, and what acceptance says.
 use Prim.Native.Nat.{ℕ, _+_, _*_, _≤_, _<_}
 use mathlib.Core.Path.{_≡_, refl, sym, ap, _∙_, subst}
-use mathlib.Core.Bool.{true}
+use mathlib.Core.Bool.{Bool, true, false, not, _||_}
 use mathlib.Core.List.{List}
 use native.Mathlib.Omega.{arith}
 use native.Mathlib.Nat.{zero-mul}
-use lib.Dec.{leb}
+use lib.Dec.{leb, eqb}
 use lib.ListN.{length, getD}
 use lib.Ieee.{Float}
-use borrow.Author.Tests.{le-leb, lt-leb, leb-false}
-use Rattle.laws.specs.First.{row, first}
-use Rattle.laws.proofs.First.{row-applies, row-skipped, row-passed, first-some, first-zero, first-zero-left, first-zero-right}
+use borrow.Author.Tests.{leb-false, eq-eqb, ne-eqb, eqb-true, eqb-false, not-false}
+use Rattle.laws.specs.First.{row, first, firstOf}
+use Rattle.laws.proofs.First.{row-applies, row-skipped, row-passed, row-later, first-some, first-zero, first-zero-left, first-zero-right}
 use Rattle.format.specs.Network.{entryOf, segmentOf}
 use Rattle.format.specs.Words.{headIn, entryIn, segmentIn}
 use Rattle.metanet.specs.Words.{netOf, caseIn}
-use Rattle.metanet.proofs.InWords.{stepNumberIn, caseNumberIn}
+use Rattle.metanet.proofs.InWords.{arrivalNumberIn, stepNumberIn, caseNumberIn}
 use Rattle.metanet.proofs.Ready.{Ready, CaseAt, TotalsOk}
 use Rattle.metanet.specs.Sound.{stepNumber}
 use Rattle.metanet.proofs.SoundLaws.{case-ready, case-total}
@@ -23,16 +23,13 @@ use Rattle.book.specs.Arrangement.{caseWord, caseSpeed, networkAt, sizeAt, runC
 use Rattle.book.specs.Sound.{sound}
 use Rattle.book.specs.Refusal.{refusal, itemNumber}
 use Rattle.book.specs.Perform.{lent, refusalAt}
-use Rattle.book.proofs.Network.{size-word}
 use Rattle.book.proofs.Judging.{placed, case-judged}
 use Rattle.book.proofs.Sounds.{laid, live-sound}
-use Rattle.book.proofs.Performing.{judged}
+use Rattle.book.proofs.Performing.{judged, unsound}
+use Rattle.book.proofs.Rows.{live-word}
 use Rattle.book.specs.Calls.{item}
 use Rattle.metanet.specs.Line.{stepped}
-
--- the live case stands first
-pub live-word : (n : ℕ) → caseWord n 0 ≡ 2576
-live-word n = omega arith
+use Rattle.refusal.specs.Ready.{listedNumber}
 
 module _ (words : List ℕ) (speeds : List Float) (ds : List ℕ) where
   abbrev net : List ℕ
@@ -56,15 +53,44 @@ module _ (words : List ℕ) (speeds : List Float) (ds : List ℕ) where
         judged (item (stepped ds)) words speeds refl s
         ∙ ap (λ (x : ℕ). first x (row (leb 1000000 (runCountAt words)) 16 0)) (ap (λ (t : ℕ). stepNumber (networkAt words .head) (entryOf (networkAt words)) (segmentOf (networkAt words)) t ds) steps-are ∙ same-number stepsWord)
 
-    pub step-refused : {r : ℕ} → r ≡ stepNumberIn net stepsWord ds → (r ≡ 0 → ⊥) → r ≡ refusalAt (item (stepped ds)) (lent words speeds)
-    step-refused e some = e ∙ sym (number-is ∙ first-some _ _ (λ z. some (e ∙ z)))
+    -- 13
+    pub unlisted : (length ds ≡ sizeAt words → ⊥) → 13 ≡ refusalAt (item (stepped ds)) (lent words speeds)
+    unfolding stepNumber first
+    unlisted other = sym (number-is ∙ ap (λ (x : ℕ). first x (row (leb 1000000 (runCountAt words)) 16 0)) (row-applies _ _ _ (ap not (ne-eqb _ _ other))))
 
-    module _ (z : stepNumberIn net stepsWord ds ≡ 0) where
-      pub runs-spent : 1000000 ≤ runCountAt words → 16 ≡ refusalAt (item (stepped ds)) (lent words speeds)
-      runs-spent l = sym (number-is ∙ first-zero _ _ z ∙ row-applies _ _ _ (le-leb _ _ l))
+    -- as many arrivals as segments
+    module _ {n : ℕ} (size : n ≡ sizeAt words) (listed : length ds ≡ n) where
+      abbrev arrivals : ℕ
+      arrivals = firstOf (arrivalNumberIn net ds) n
 
-      pub step-taken : runCountAt words < 1000000 → 0 ≡ refusalAt (item (stepped ds)) (lent words speeds)
-      step-taken l = sym (number-is ∙ first-zero _ _ z ∙ row-skipped _ _ _ (lt-leb _ _ l))
+      row-is : refusalAt (item (stepped ds)) (lent words speeds) ≡ first (first arrivals (row (leb 20000 stepsWord) 16 0)) (row (leb 1000000 (runCountAt words)) 16 0)
+      unfolding stepNumber
+      row-is =
+          number-is
+          ∙ ap (λ (x : ℕ). first x (row (leb 1000000 (runCountAt words)) 16 0))
+          (row-skipped _ _ _ (ap not (eq-eqb _ _ (listed ∙ size)))
+          ∙ ap (λ (m : ℕ). first (firstOf (arrivalNumberIn net ds) m) (row (leb 20000 stepsWord) 16 0)) (sym size))
+
+      -- 15
+      pub arrival-refused : {r : ℕ} → r ≡ arrivals → (r ≡ 0 → ⊥) → r ≡ refusalAt (item (stepped ds)) (lent words speeds)
+      arrival-refused {r} e some =
+          let found : first arrivals (row (leb 20000 stepsWord) 16 0) ≡ r = first-some _ _ (λ z. some (e ∙ z)) ∙ sym e in
+          sym (row-is ∙ first-some _ _ (λ z. some (sym found ∙ z)) ∙ found)
+
+      -- 16, and none
+      module _ (z : arrivals ≡ 0) where
+        rest : refusalAt (item (stepped ds)) (lent words speeds) ≡ row (leb 20000 stepsWord || leb 1000000 (runCountAt words)) 16 0
+        rest = row-is ∙ ap (λ (x : ℕ). first x (row (leb 1000000 (runCountAt words)) 16 0)) (first-zero _ _ z) ∙ either (leb 20000 stepsWord) (leb 1000000 (runCountAt words))
+          where
+            either : (a b : Bool) → first (row a 16 0) (row b 16 0) ≡ row (a || b) 16 0
+            either true b = unfold first row in refl
+            either false b = unfold first row in refl
+
+        pub steps-spent : (leb 20000 stepsWord || leb 1000000 (runCountAt words)) ≡ true → 16 ≡ refusalAt (item (stepped ds)) (lent words speeds)
+        steps-spent e = sym (rest ∙ row-applies _ _ _ e)
+
+        pub step-taken : (leb 20000 stepsWord || leb 1000000 (runCountAt words)) ≡ false → 0 ≡ refusalAt (item (stepped ds)) (lent words speeds)
+        step-taken e = sym (rest ∙ row-skipped _ _ _ e)
 
     -- ---- what acceptance says
     module _ (q : refusalAt (item (stepped ds)) (lent words speeds) ≡ 0) where
@@ -86,17 +112,33 @@ module _ (words : List ℕ) (speeds : List Float) (ds : List ℕ) where
       pub totals-ready : TotalsOk words (caseWord (sizeAt words) 0 + 16 * sizeAt words)
       totals-ready = case-total live-case live-in
 
-      -- as the code reads n and names the live case's places
-      pub step-ready : Ready words speeds ds 2576 0 (getD words 1 0)
-      step-ready =
-          subst (λ (m : ℕ). Ready words speeds ds 2576 0 m) (size-word words)
-          (subst (λ (p : ℕ). Ready words speeds ds p 0 (sizeAt words)) (live-word (sizeAt words))
-          (subst (λ (p : ℕ). Ready words speeds ds (caseWord (sizeAt words) 0) p (sizeAt words)) (zero-mul (sizeAt words)) ready))
+      -- as the code names n and the live case's places
+      module _ {n : ℕ} (size : n ≡ sizeAt words) where
+        pub step-ready : Ready words speeds ds 2576 0 n
+        step-ready =
+            subst (λ (m : ℕ). Ready words speeds ds 2576 0 m) (sym size)
+            (subst (λ (p : ℕ). Ready words speeds ds p 0 (sizeAt words)) (live-word (sizeAt words))
+            (subst (λ (p : ℕ). Ready words speeds ds (caseWord (sizeAt words) 0) p (sizeAt words)) (zero-mul (sizeAt words)) ready))
 
-      pub step-totals : TotalsOk words (2576 + 16 * getD words 1 0)
-      step-totals =
-          subst (λ (m : ℕ). TotalsOk words (2576 + 16 * m)) (size-word words)
-          (subst (λ (p : ℕ). TotalsOk words (p + 16 * sizeAt words)) (live-word (sizeAt words)) totals-ready)
+        pub step-totals : TotalsOk words (2576 + 16 * n)
+        step-totals =
+            subst (λ (m : ℕ). TotalsOk words (2576 + 16 * m)) (sym size)
+            (subst (λ (p : ℕ). TotalsOk words (p + 16 * sizeAt words)) (live-word (sizeAt words)) totals-ready)
 
-      pub step-long : 2576 + 7 * (16 * getD words 1 0 + 8) ≤ length words
-      step-long = omega (arith, laid words speeds s .room, size-word words)
+-- ---- 12 and 13, judged first
+
+module _ (words : List ℕ) (speeds : List Float) (ds : List ℕ) where
+  pub listed-refused : {r : ℕ} → r ≡ listedNumber words speeds ds → (r ≡ 0 → ⊥) → r ≡ refusalAt (item (stepped ds)) (lent words speeds)
+  listed-refused {r} e some = go (sound words speeds) refl (eqb (length ds) (sizeAt words)) refl
+    where
+      go : (a : Bool) → sound words speeds ≡ a → (b : Bool) → eqb (length ds) (sizeAt words) ≡ b → r ≡ refusalAt (item (stepped ds)) (lent words speeds)
+      go false s b p = e ∙ row-applies _ _ _ (ap not s) ∙ unsound (item (stepped ds)) words speeds refl s
+      go true s false p = e ∙ row-skipped _ _ _ (ap not s) ∙ row-applies _ _ _ (ap not p) ∙ unlisted words speeds ds s (eqb-false _ _ p)
+      go true s true p = absurd (some (e ∙ row-skipped _ _ _ (ap not s) ∙ row-skipped _ _ _ (ap not p)))
+
+  module _ (z : listedNumber words speeds ds ≡ 0) where
+    pub listed-sound : sound words speeds ≡ true
+    listed-sound = not-false _ (row-passed _ _ _ z)
+
+    pub listed-many : length ds ≡ sizeAt words
+    listed-many = eqb-true _ _ (not-false _ (row-passed _ _ _ (row-later _ _ _ z)))

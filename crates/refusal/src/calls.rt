@@ -3,11 +3,17 @@ use crate::arrivals;
 use crate::segment;
 use metanet::Setting;
 ghost use mathlib.Core.Path.{_≡_};
+ghost use lib.ListN.{length};
+ghost use Rattle.laws.specs.Sums.{sumOf};
+ghost use Rattle.metanet.proofs.Ready.{vehiclesAt};
 ghost use Rattle.metanet.specs.Change.{complianceBad, signRefused, settingRefused};
 ghost use Rattle.metanet.specs.Line.{signed, metered, stepped};
 ghost use Rattle.book.specs.Question.{totals, segment, ofCase};
 ghost use Rattle.book.specs.Calls.{item, hold, recall, question};
 ghost use Rattle.book.specs.Perform.{lent, refusalAt};
+ghost use Rattle.book.specs.Run.{runRefusal};
+ghost use Rattle.book.proofs.Rows.{RowReady};
+ghost use Rattle.refusal.specs.Ready.{listedNumber};
 
 fn compliance_bad(compliance: i64) -> bool
     ensures { λ r. ⌜ r ≡ complianceBad compliance ⌝ }
@@ -79,27 +85,50 @@ pub fn meter_number(words: &[u64], speeds: &[f64], i: u64, setting: Setting) -> 
     0
 }
 
-// Step: 12, 13, 15, 16.
-pub fn step_number(words: &[u64], speeds: &[f64], arrivals: &[u32]) -> u64
-    ensures { λ r. ⌜ r ≡ refusalAt (item (stepped (now (arrivals .entry)))) (lent (now (words .entry)) (now (speeds .entry))) ⌝ }
+// Step, as far as the study and the list's length refuse it: 12, 13.
+pub fn listed_number(words: &[u64], speeds: &[f64], arrivals: &[u32]) -> u64
+    ensures { λ r. ⌜ r ≡ listedNumber (now (words .entry)) (now (speeds .entry)) (now (arrivals .entry)) ⌝ }
 {
     if !sound::sound(words, speeds) {
         return 12;
     }
-    let n = words[1] as usize;
-    let r = arrivals::step_number(
-        &words[..network_words::NETWORK_WORDS],
-        arrivals,
-        n,
-        words[case_words::FIRST_CASE + 16 * n],
-    );
+    if arrivals.len() != words[1] as usize {
+        return 13;
+    }
+    0
+}
+
+// Step, with as many arrivals as segments, on a study that is sound but perhaps for the totals of its live case: 12, 15, 16. vehicles is
+// the mv of that case.
+pub fn row_number(words: &[u64], speeds: &[f64], arrivals: &[u32], n: usize, vehicles: u64) -> u64
+    requires { ⌜ RowReady (now words) (now speeds) n ⌝ }
+    requires { ⌜ length (now arrivals) ≡ n ⌝ }
+    requires { ⌜ vehicles ≡ sumOf (vehiclesAt (now words) 2576) n ⌝ }
+    ensures { λ r. ⌜ r ≡ refusalAt (item (stepped (now (arrivals .entry)))) (lent (now (words .entry)) (now (speeds .entry))) ⌝ }
+{
+    if sound::live_bad(words, speeds, n, vehicles) {
+        return 12;
+    }
+    let r = arrivals::arrivals_number(&words[..network_words::NETWORK_WORDS], arrivals, n);
     if r != 0 {
         return r;
     }
-    if 1000000 <= words[case_words::RUN_WORD] {
+    if (20000 <= words[case_words::FIRST_CASE + 16 * n])
+        | (1000000 <= words[case_words::RUN_WORD])
+    {
         return 16;
     }
     0
+}
+
+// A run, before its first row: 12; 25 and 26 by the file.
+pub fn run_number(words: &[u64], speeds: &[f64], file: &[u8]) -> u64
+    ensures { λ r. ⌜ r ≡ runRefusal (now (file .entry)) (lent (now (words .entry)) (now (speeds .entry))) ⌝ }
+{
+    if !sound::sound(words, speeds) {
+        return 12;
+    }
+    survey::number(file, words[1])
 }
 
 // Hold: 12; 21 no such slot; 22 a filled one.

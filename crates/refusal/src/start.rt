@@ -1,27 +1,12 @@
 // The number that refuses Start.
 ghost use mathlib.Core.Path.{_≡_};
-ghost use Prim.Native.Nat.{_+_, _*_, _<_, _≤_};
-ghost use lib.ListN.{length, getD};
+ghost use Prim.Native.Nat.{_<_, _≤_};
 ghost use Rattle.laws.specs.First.{firstOf};
 ghost use Rattle.format.specs.File.{headOf};
 ghost use Rattle.book.specs.Calls.{start};
 ghost use Rattle.metanet.specs.Start.{startSegmentNumber};
 ghost use Rattle.book.specs.Perform.{lent, refusalAt};
 ghost use Rattle.refusal.specs.Ready.{startNumberOn, Listed};
-
-fn wide(x: u32) -> u64
-    ensures { λ r. ⌜ r ≡ x ⌝ }
-{
-    x as u64
-}
-
-// Number i of a list.
-pub fn entry(list: &[u32], i: usize) -> u64
-    requires { ⌜ i < length (now list) ⌝ }
-    ensures { λ r. ⌜ r ≡ getD (now (list .entry)) i 0 ⌝ }
-{
-    wide(list[i])
-}
 
 // 14, of a segment whose curve begins at top, for its mv, speed and queue.
 fn value_number(s: format::Segment, top: u64, mv: u64, speed: u64, queue: u64) -> u64
@@ -47,9 +32,9 @@ fn segment_number(file: &[u8], mvs: &[u32], initial: &[u32], queues: &[u32], i: 
 {
     let s = network::segment_of(file, i as u32);
     let top = network::entry_of(file, s.curve as u32, 0);
-    let mv = entry(mvs, i);
-    let speed = entry(initial, i);
-    let queue = entry(queues, i);
+    let mv = arrays::entry(mvs, i);
+    let speed = arrays::entry(initial, i);
+    let queue = arrays::entry(queues, i);
     value_number(s, top, mv, speed, queue)
 }
 

@@ -15,7 +15,7 @@ ghost use Prim.Native.Nat.{_+_, _-_, _*_, _<_, _≤_};
 ghost use lib.ListN.{length, getD, drop};
 ghost use Rattle.laws.specs.Real.{real, _⊘_};
 ghost use Rattle.format.proofs.Accepted.{HeadWithin, CurveWithin};
-ghost use Rattle.format.specs.Words.{entryIn, segmentIn};
+ghost use Rattle.format.specs.Words.{headIn, entryIn, segmentIn};
 ghost use Rattle.metanet.specs.Flow.{exitPart};
 ghost use Rattle.metanet.specs.Speed.{area};
 ghost use Rattle.metanet.specs.Step.{signOf, desiredSpeed, rateNow, rampNow, outflowNow, newState};
@@ -174,6 +174,7 @@ fn want_of(net: &[u64], s: Segment, f: u64, r: SegmentState, g: u64) -> f64
 // it passes on and its speed.
 pub fn new_state_in(
     words: &[u64],
+    h: Head,
     a: usize,
     v: f64,
     d: u64,
@@ -183,12 +184,11 @@ pub fn new_state_in(
     passed: u64,
     before: f64,
 ) -> SegmentState
-    requires { ⌜ NewStateOk (now words) a v d i n passed ⌝ }
+    requires { ⌜ NewStateOk (now words) a v d i n passed × (h ≡ headIn (netOf (now words))) ⌝ }
     ensures { λ r. ⌜ r ≡ newStateIn (netOf (now (words .entry))) (drop a (now (words .entry))) v d i n t passed before ⌝ }
 {
     let net = &words[..network_words::NETWORK_WORDS];
     let rest = &words[a..];
-    let h = network_words::kept_head(net);
     let s = network_words::kept_segment(net, i as u32);
     let f = network_words::kept_entry(net, s.curve as u32, 0);
     let r = case_words::state_of(rest, v);

@@ -130,7 +130,7 @@ fn states_number(words: &[u64], speeds: &[f64], at: usize, from: usize, n: usize
 }
 
 // vehicles is the mv in segments and queues.
-fn totals_bad(vehicles: u64, steps: u64, arrivals: u64, exits: u64, time: u64) -> bool
+pub(crate) fn totals_bad(vehicles: u64, steps: u64, arrivals: u64, exits: u64, time: u64) -> bool
     ensures { λ r. ⌜ r ≡ totalsBad vehicles steps arrivals exits time ⌝ }
 {
     (1000000000000 < vehicles)

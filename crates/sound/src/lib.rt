@@ -3,11 +3,25 @@ mod case; // case.rt: a case
 mod study; // study.rt: a study
 
 ghost use mathlib.Core.Path.{_≡_};
+ghost use Rattle.laws.specs.Sums.{sumOf};
+ghost use Rattle.metanet.proofs.Ready.{vehiclesAt};
 ghost use Rattle.book.specs.Sound.{sound};
+ghost use Rattle.book.proofs.Laid.{Laid};
+ghost use Rattle.book.proofs.Rows.{liveBad};
 
 // Whether the arrays hold a sound study. Nothing is presumed of them.
 pub fn sound(words: &[u64], speeds: &[f64]) -> bool
     ensures { λ r. ⌜ r ≡ sound (now (words .entry)) (now (speeds .entry)) ⌝ }
 {
     study::sound_number(words, speeds) == 0
+}
+
+// Whether the totals of the live case of n segments, of which vehicles is the mv, pass their bounds.
+pub fn live_bad(words: &[u64], speeds: &[f64], n: usize, vehicles: u64) -> bool
+    requires { ⌜ Laid (now words) (now speeds) n ⌝ }
+    requires { ⌜ vehicles ≡ sumOf (vehiclesAt (now words) 2576) n ⌝ }
+    ensures { λ r. ⌜ r ≡ liveBad (now (words .entry)) n ⌝ }
+{
+    let e = case_words::FIRST_CASE + 16 * n;
+    case::totals_bad(vehicles, words[e], words[e + 1], words[e + 2], words[e + 3])
 }

@@ -6,7 +6,7 @@ use mathlib.Core.List.{List}
 use native.Mathlib.Nat.{add-zero, zero-mul}
 use native.Mathlib.Omega.{arith}
 use lib.IntN.{ℤ}
-use lib.ListN.{length, getD, set}
+use lib.ListN.{length, set}
 use lib.Seq.{set-getD}
 use lib.Ieee.{Float}
 use Rattle.laws.specs.Lists.{part, putPart}
@@ -23,11 +23,11 @@ use Rattle.book.specs.Calls.{item}
 use Rattle.book.specs.Sound.{sound}
 use Rattle.book.specs.Perform.{lent, refusalAt, changed, stored}
 use Rattle.book.proofs.Laid.{Laid}
-use Rattle.book.proofs.Network.{size-word}
 use Rattle.book.proofs.Sounds.{laid}
 use Rattle.book.proofs.Performing.{accepted-sound}
 use Rattle.refusal.proofs.Settings.{stateWord, StateWithin, sign-within, meter-within}
-use Rattle.refusal.proofs.Stepping.{live-word, ready, totals-ready}
+use Rattle.refusal.proofs.Stepping.{ready, totals-ready}
+use Rattle.book.proofs.Rows.{live-word}
 
 -- ---- one state is written, of segment i, counted from 1
 
@@ -114,18 +114,19 @@ module _ (words : List ℕ) (speeds : List Float) (i : ℕ) where
     pub meter-speeds-stay : stored (item (metered i m)) (lent words speeds) .speeds ≡ speeds
     meter-speeds-stay = metered-speeds words speeds i meter-laid (meter-within words speeds i m e) m
 
-module _ (words : List ℕ) (speeds : List Float) (ds : List ℕ) (s : sound words speeds ≡ true) (e : refusalAt (item (stepped ds)) (lent words speeds) ≡ 0) where
-  -- as the code reads n and names the live case's places
-  pub step-stored : stored (item (stepped ds)) (lent words speeds) .words ≡ set (stepCaseWords words speeds 2576 0 (getD words 1 0) ds) 2560 (runCountAt words + 1)
+module _ (words : List ℕ) (speeds : List Float) (ds : List ℕ) (s : sound words speeds ≡ true) (e : refusalAt (item (stepped ds)) (lent words speeds) ≡ 0)
+    {n : ℕ} (size : n ≡ sizeAt words) where
+  -- as the code names n and the live case's places
+  pub step-stored : stored (item (stepped ds)) (lent words speeds) .words ≡ set (stepCaseWords words speeds 2576 0 n ds) 2560 (runCountAt words + 1)
   unfolding stored changed change
   step-stored =
       ap (λ (x : List ℕ). set x 2560 (runCountAt words + 1)) (step-written (ready words speeds ds s e) (totals-ready words speeds ds s e))
       ∙ (λ j. set (stepCaseWords words speeds (live-word (sizeAt words) j) (zero-mul (sizeAt words) j) (sizeAt words) ds) 2560 (runCountAt words + 1))
-      ∙ ap (λ (n : ℕ). set (stepCaseWords words speeds 2576 0 n ds) 2560 (runCountAt words + 1)) (size-word words)
+      ∙ ap (λ (m : ℕ). set (stepCaseWords words speeds 2576 0 m ds) 2560 (runCountAt words + 1)) (sym size)
 
-  pub step-speeds-stored : stored (item (stepped ds)) (lent words speeds) .speeds ≡ stepCaseSpeeds words speeds 2576 0 (getD words 1 0) ds
+  pub step-speeds-stored : stored (item (stepped ds)) (lent words speeds) .speeds ≡ stepCaseSpeeds words speeds 2576 0 n ds
   unfolding stored changed change
   step-speeds-stored =
       step-speeds-written (ready words speeds ds s e) (totals-ready words speeds ds s e)
       ∙ (λ j. stepCaseSpeeds words speeds (live-word (sizeAt words) j) (zero-mul (sizeAt words) j) (sizeAt words) ds)
-      ∙ ap (λ (n : ℕ). stepCaseSpeeds words speeds 2576 0 n ds) (size-word words)
+      ∙ ap (λ (m : ℕ). stepCaseSpeeds words speeds 2576 0 m ds) (sym size)

@@ -1,7 +1,9 @@
 // A study in the lent words and speeds: its network, run count and marks, its live case and six slots.
 mod change; // change.rt: what a sign and a setting put into a state
 mod copy; // copy.rt: a case copied to the place of another
+mod rows; // rows.rt: a row of arrivals taken as a step, and the rows of a survey file
 
+use book::Ran;
 use book::Verdict;
 use case_words::FIRST_CASE;
 use case_words::RUN_WORD;
@@ -10,6 +12,7 @@ use refusal::calls;
 ghost use Rattle.metanet.specs.Line.{signed, metered, stepped};
 ghost use Rattle.book.specs.Calls.{item, hold, recall, dropSlot, verdictSays};
 ghost use Rattle.book.specs.Perform.{Performs};
+ghost use Rattle.book.specs.Run.{PerformsRun, ranSays};
 
 // Sets the sign of segment i, from 1: a limit in km/h, 0 where it is dark, with compliance in thousandths.
 pub fn sign(words: &mut [u64], speeds: &[f64], i: u64, limit: u64, compliance: i64) -> Verdict
@@ -42,15 +45,28 @@ pub fn meter(words: &mut [u64], speeds: &[f64], i: u64, setting: Setting) -> Ver
 pub fn step(words: &mut [u64], speeds: &mut [f64], arrivals: &[u32]) -> Verdict
     ensures { λ r. ⌜ Performs (item (stepped (now (arrivals .entry)))) (now (words .entry)) (now (speeds .entry)) (verdictSays r) (now (words .exit)) (now (speeds .exit)) ⌝ }
 {
-    let r = calls::step_number(words, speeds, arrivals);
+    let listed = calls::listed_number(words, speeds, arrivals);
+    if listed != 0 {
+        return Verdict::Refused(listed);
+    }
+    let n = words[1] as usize;
+    let r = rows::step_row(words, speeds, arrivals, n);
     if r != 0 {
         return Verdict::Refused(r);
     }
-    let n = words[1] as usize;
-    let runs = words[RUN_WORD];
-    model::step(words, speeds, arrivals, FIRST_CASE, 0, n);
-    words[RUN_WORD] = runs + 1;
     Verdict::Accepted
+}
+
+// A step of the live case for each row of a survey file, up to the first row that is refused.
+pub fn run(words: &mut [u64], speeds: &mut [f64], file: &[u8]) -> Ran
+    ensures { λ r. ⌜ PerformsRun (now (file .entry)) (now (words .entry)) (now (speeds .entry)) (ranSays r) (now (words .exit)) (now (speeds .exit)) ⌝ }
+{
+    let r = calls::run_number(words, speeds, file);
+    if r != 0 {
+        return Ran::Refused(r);
+    }
+    let n = words[1] as usize;
+    rows::run_rows(words, speeds, file, n)
 }
 
 // The live case into slot k, which is then filled.

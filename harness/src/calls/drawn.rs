@@ -34,7 +34,8 @@ pub const KINDS: &[Kind] = &[
     kind(6, 5, |scene, from| {
         scene.meter(from, |from, most| from.alinea(most))
     }),
-    kind(36, 1, |scene, from| Call::Step(scene.arrivals(from))),
+    kind(30, 1, |scene, from| Call::Step(scene.arrivals(from))),
+    kind(6, 3, |scene, from| scene.run(from)),
     kind(8, 1, |scene, from| Call::Hold(scene.slot(from, false))),
     kind(7, 1, |scene, from| Call::Recall(scene.slot(from, true))),
     kind(4, 1, |scene, from| Call::Drop(scene.slot(from, true))),

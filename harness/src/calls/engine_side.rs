@@ -19,6 +19,7 @@ pub fn ask_engine(words: &mut [u64], speeds: &mut [f64], call: &Call) -> (Functi
         } => asked!(study_sign(words, speeds, segment, limit, compliance)),
         Call::Meter { segment, setting } => ask_meter(words, speeds, segment, setting),
         Call::Step(ref arrivals) => asked!(study_step(words, speeds, arrivals)),
+        Call::Run { ref file, .. } => asked!(study_run(words, speeds, file, figures)),
         Call::Hold(slot) => asked!(study_hold(words, speeds, slot)),
         Call::Recall(slot) => asked!(study_recall(words, speeds, slot)),
         Call::Drop(slot) => asked!(study_drop(words, speeds, slot)),

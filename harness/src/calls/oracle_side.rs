@@ -1,6 +1,6 @@
 //! The same calls asked of the oracle: of its book, or on arrays.
 
-use super::{Answer, Call, Start};
+use super::{Answer, Call, Start, RUN_FIGURES};
 use oracle::book::{self, Book, Figures, Lengths};
 use oracle::{file, study};
 
@@ -16,6 +16,13 @@ pub fn ask_arrays(words: &mut [u64], speeds: &mut [f64], call: &Call) -> Answer 
             answer.give_bytes(&file);
             Figures::new()
         }),
+        // No row is taken where there is too little room: 24 comes after what
+        // refuses the same run of a copy.
+        Call::Run { room, .. } if *room < RUN_FIGURES => study::call(
+            &mut words.to_vec(),
+            &mut speeds.to_vec(),
+            &oracle_call(call),
+        ),
         _ => study::call(words, speeds, &oracle_call(call)),
     };
     complete(answer, result)
@@ -30,6 +37,7 @@ pub fn ask_book(book: &mut Book, call: &Call) -> Answer {
             answer.give_bytes(&file::write(book.network()));
             Ok(Figures::new())
         }
+        Call::Run { room, .. } if *room < RUN_FIGURES => book.clone().call(&oracle_call(call)),
         _ => book.call(&oracle_call(call)),
     };
     complete(answer, result)
@@ -63,6 +71,7 @@ fn oracle_call(call: &Call) -> book::Call<'_> {
         },
         Call::Meter { segment, setting } => book::Call::Meter { segment, setting },
         Call::Step(ref arrivals) => book::Call::Step { arrivals },
+        Call::Run { ref file, .. } => book::Call::Run { file },
         Call::Hold(slot) => book::Call::Hold { slot },
         Call::Recall(slot) => book::Call::Recall { slot },
         Call::Drop(slot) => book::Call::Drop { slot },

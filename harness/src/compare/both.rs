@@ -48,7 +48,7 @@ impl Both {
             return Err(self.differs(&engine.beside(&oracle)));
         }
         self.compare(stays)?;
-        reached::note(function, engine.number);
+        reached::note_answer(function, &engine);
         Ok(engine)
     }
 
@@ -64,6 +64,14 @@ impl Both {
         }
     }
 
+    /// The engine's arrays are these, in every word and every bit.
+    pub fn expect_arrays(&self, expected: &Arrays) -> Result<(), Difference> {
+        match self.engine.first_difference(expected) {
+            Some(what) => Err(self.differs(&what)),
+            None => Ok(()),
+        }
+    }
+
     /// A call that is refused or only asks has left every word and every bit;
     /// any other has made the same of them on both sides.
     fn compare(&mut self, stays: bool) -> Result<(), Difference> {
@@ -71,9 +79,7 @@ impl Both {
             true => &self.before,
             false => &self.oracle,
         };
-        if let Some(what) = self.engine.first_difference(expected) {
-            return Err(self.differs(&what));
-        }
+        self.expect_arrays(expected)?;
         if !stays {
             self.before.follow(&self.engine);
         }

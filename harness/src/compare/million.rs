@@ -1,5 +1,6 @@
 //! Row 16 through calls alone: lines of 20,000 steps, each begun by recalling
-//! the start case, until 1,000,000 steps have been accepted since Start.
+//! the start case, until 1,000,000 steps have been accepted since Start. Every
+//! second line is a run after few steps; the last is a run, and ends halfway.
 
 use super::Difference;
 use crate::calls::{ask_book, ask_engine, begin_book, good_start, Answer, Call};
@@ -8,6 +9,7 @@ use crate::networks::calm_road;
 use crate::random::Random;
 use crate::reached;
 use crate::study::{speeds_for, words_for, MOST_RUNS};
+use crate::surveys::Day;
 use oracle::book::{Book, Lengths};
 use oracle::study;
 
@@ -34,31 +36,59 @@ pub fn one(random: &mut Random, _: u64) -> Result<(), Difference> {
     let (_, answer) = ask_engine(&mut long.words, &mut long.speeds, &start);
     expect(&answer, 0)?;
     long.take(Call::Hold(1), 0)?;
-    for _ in 0..MOST_RUNS / MOST_STEPS {
-        for _ in 0..MOST_STEPS {
-            long.take(step(random), 0)?;
-        }
+    long.steps(random, MOST_STEPS / 2)?;
+    long.take(Call::Recall(1), 0)?;
+    for line in 1..MOST_RUNS / MOST_STEPS {
+        let few = if line % 2 == 0 { line } else { MOST_STEPS };
+        long.steps(random, few)?;
+        long.run(random, [MOST_STEPS - few, 16])?;
         long.take(step(random), 16)?;
         long.figures()?;
         long.take(Call::Recall(1), 0)?;
     }
+    long.run(random, [MOST_STEPS / 2, 16])?;
     long.take(step(random), 16)?;
+    long.take(Call::Recall(1), 0)?;
+    long.run(random, [0, 16])?;
     long.take(Call::Step([u32::MAX].into()), 15)?;
     long.figures()
 }
 
 fn step(random: &mut Random) -> Call {
-    Call::Step([random.below(2_000) as u32].into())
+    Call::Step([arrival(random)].into())
+}
+
+fn arrival(random: &mut Random) -> u32 {
+    random.below(2_000) as u32
 }
 
 impl Long {
-    /// Engine and book answer this number.
-    fn take(&mut self, call: Call, number: u64) -> Result<(), Difference> {
+    fn steps(&mut self, random: &mut Random, steps: u64) -> Result<(), Difference> {
+        (0..steps).try_for_each(|_| self.take(step(random), 0).map(|_| ()))
+    }
+
+    /// A run of 20,000 rows ends with these figures.
+    fn run(&mut self, random: &mut Random, figures: [u64; 2]) -> Result<(), Difference> {
+        let list = (0..MOST_STEPS).map(|_| arrival(random)).collect();
+        let file = Day { n: 1, list }.file().into();
+        let room = figures.len();
+        let answer = self.take(Call::Run { file, room }, 0)?;
+        match *answer.figures == figures {
+            true => Ok(()),
+            false => Err(differs(format!("run: {figures:?}, {:?}", answer.figures))),
+        }
+    }
+
+    /// Engine and book answer the same, and this number.
+    fn take(&mut self, call: Call, number: u64) -> Result<Answer, Difference> {
         let (function, engine) = ask_engine(&mut self.words, &mut self.speeds, &call);
         expect(&engine, number)?;
-        expect(&ask_book(&mut self.book, &call), number)?;
-        reached::note(function, number);
-        Ok(())
+        let book = ask_book(&mut self.book, &call);
+        if engine != book {
+            return Err(differs(engine.beside(&book)));
+        }
+        reached::note_answer(function, &engine);
+        Ok(engine)
     }
 
     /// The live case and the run count are the book's.

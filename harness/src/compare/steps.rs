@@ -14,6 +14,12 @@ use crate::study::{Study, MOST_RUNS};
 const OFTEN: [u64; 4] = [1, 2, 12, 40];
 
 pub fn one(random: &mut Random, index: u64) -> Result<(), Difference> {
+    let (study, what) = study(random, index);
+    take(random, &study).map_err(|difference| difference.of(&what))
+}
+
+/// A sound study with a step left, and what it is.
+pub fn study(random: &mut Random, index: u64) -> (Study, String) {
     let segments = match OFTEN.get((index % 5) as usize) {
         Some(&segments) => segments,
         None => random.between(1, 40),
@@ -25,8 +31,7 @@ pub fn one(random: &mut Random, index: u64) -> Result<(), Difference> {
     if random.once_in(8) {
         fill_slots(random, &mut study);
     }
-    let what = format!("a {mood} case of {segments} segments");
-    take(random, &study).map_err(|difference| difference.of(&what))
+    (study, format!("a {mood} case of {segments} segments"))
 }
 
 fn take(random: &mut Random, study: &Study) -> Result<(), Difference> {

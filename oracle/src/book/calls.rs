@@ -43,6 +43,11 @@ pub enum Call<'a> {
     Step {
         arrivals: &'a [u32],
     },
+    /// The rows of a survey file as steps. Figures: rows taken, and the number
+    /// that stopped the run or 0.
+    Run {
+        file: &'a [u8],
+    },
     Hold {
         slot: u64,
     },

@@ -5,9 +5,11 @@ use super::{judge, Judged, ARRANGEMENT};
 use crate::book::{rows, Call, Figures, Lengths, Start};
 use crate::case::{Case, Setting, Sign};
 use crate::file;
+use crate::refusal::NOT_SOUND;
 use crate::step::step;
 use crate::stored;
 use crate::stored_case;
+use crate::survey;
 
 /// Takes one call. A refused call changes nothing.
 pub fn call(words: &mut [u64], speeds: &mut [f64], call: &Call) -> Result<Figures, u8> {
@@ -29,6 +31,7 @@ pub fn call(words: &mut [u64], speeds: &mut [f64], call: &Call) -> Result<Figure
         } => arrays.sign(segment, limit, compliance)?,
         Call::Meter { segment, setting } => arrays.meter(segment, setting)?,
         Call::Step { arrivals } => arrays.step(arrivals)?,
+        Call::Run { file } => return arrays.run(file),
         Call::Hold { slot } => arrays.hold(slot)?,
         Call::Recall { slot } => arrays.recall(slot)?,
         Call::Drop { slot } => arrays.drop_slot(slot)?,
@@ -103,8 +106,32 @@ impl Arrays<'_> {
         step(network, live, arrivals);
         let own_speeds = &mut self.speeds[places.case_speeds(0)];
         stored_case::put_step(live, &mut self.words[places.case_words(0)], own_speeds);
-        self.words[RUNS_AT] = *runs + 1;
+        *runs += 1;
+        self.words[RUNS_AT] = *runs;
         Ok(())
+    }
+
+    /// Row by row as single steps. A step leaves all but the live case and the
+    /// run count, which row 16 bounds: of what was judged only the live case
+    /// is judged anew.
+    fn run(&mut self, file: &[u8]) -> Result<Figures, u8> {
+        let rows = survey::rows(file, self.study.network.segments.len() as u64)?;
+        Ok(survey::run(rows, |row| {
+            self.judge_live()?;
+            self.step(row)
+        }))
+    }
+
+    /// 12 for the live case alone.
+    fn judge_live(&self) -> Result<(), u8> {
+        let Judged {
+            places, network, ..
+        } = &self.study;
+        let own_speeds = &self.speeds[places.case_speeds(0)];
+        match stored_case::sound(network, &self.words[places.case_words(0)], own_speeds) {
+            true => Ok(()),
+            false => Err(NOT_SOUND),
+        }
     }
 
     fn hold(&mut self, slot: u64) -> Result<(), u8> {

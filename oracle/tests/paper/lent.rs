@@ -14,6 +14,7 @@ pub const FREE_SPEED: u64 = 0x7ff0_dead_feed_beef;
 /// Words and speeds past those that three segments need.
 const PAST: usize = 5;
 
+#[derive(Clone)]
 pub struct Lent {
     pub words: Vec<u64>,
     pub speeds: Vec<f64>,

@@ -5,7 +5,7 @@ use crate::study::{ask, book, meter, number, sign, step};
 use crate::study::{ALINEA, COUNTS, QUEUES, SPEEDS};
 use oracle::book::{Book, Call, Figures, Question, Start, SLOTS};
 use oracle::case::{Setting, Sign};
-use oracle::file;
+use oracle::{file, survey};
 
 fn case_report(book: &mut Book, case: u64) -> Figures {
     let report = book.call(&ask(case, &Question::Case));
@@ -176,7 +176,10 @@ pub fn with_call<Result>(number: u64, take: impl FnOnce(&Call) -> Result) -> Res
         1 => Setting::Fixed(rest % 6_000),
         _ => Setting::Alinea(ALINEA),
     };
+    let rows = [arrivals, [rest as u32 % 5, 0, 0], [0, 0, (rest % 2) as u32]];
+    let file = survey::write(3, rows.as_flattened(), 64).expect("three rows");
     take(&match kind {
+        5 => Call::Run { file: &file },
         0 => Call::Hold { slot },
         1 => Call::Recall { slot },
         2 => Call::Drop { slot },

@@ -11,4 +11,5 @@ mod sound;
 mod step;
 mod step_in_arrays;
 mod study;
+mod survey;
 mod worked;

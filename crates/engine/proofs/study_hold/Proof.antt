@@ -4,7 +4,7 @@ use Rattle.engine.proofs.study_hold.Statement.{statement}
 use Rattle.engine.proofs.study_hold.Tie as tie
 
 returns : tie.Need-returns
-returns c = called (c .before .before .before .before .before .hold .result) (c .number-of .ensures) (c .before .before .before .before .before .hold .ensures)
+returns c = called _ _ _ (c .before .before .before .before .before .hold .result) (c .number-of .ensures) (c .before .before .before .before .before .hold .ensures)
 
 pub study-hold-spec : {M : Type 1} → statement M
 study-hold-spec =

@@ -4,7 +4,7 @@ use Rattle.engine.proofs.study_meter_open.Statement.{statement}
 use Rattle.engine.proofs.study_meter_open.Tie as tie
 
 returns : tie.Need-returns
-returns c = called (c .before .before .before .meter .result) (c .number-of .ensures) (c .before .before .before .meter .ensures)
+returns c = called _ _ _ (c .before .before .before .meter .result) (c .number-of .ensures) (c .before .before .before .meter .ensures)
 
 pub study-meter-open-spec : {M : Type 1} → statement M
 study-meter-open-spec = tie.close (tie.spec (λ c κs. search needs) (λ c κs. search needs) (λ c. search needs) returns)

@@ -4,7 +4,7 @@ use Rattle.engine.proofs.study_recall.Statement.{statement}
 use Rattle.engine.proofs.study_recall.Tie as tie
 
 returns : tie.Need-returns
-returns c = called (c .before .before .before .before .before .recall .result) (c .number-of .ensures) (c .before .before .before .before .before .recall .ensures)
+returns c = called _ _ _ (c .before .before .before .before .before .recall .result) (c .number-of .ensures) (c .before .before .before .before .before .recall .ensures)
 
 pub study-recall-spec : {M : Type 1} → statement M
 study-recall-spec =

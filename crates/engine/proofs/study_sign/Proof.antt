@@ -8,7 +8,7 @@ use Rattle.engine.proofs.study_sign.Tie as tie
 returns : tie.Need-returns
 returns c =
     let a = c .before .before .before .before .before .before .before in
-    rw (toZ-ofZ w64 (a .args .compliance) (a .fits .compliance)) at (called (c .before .before .before .sign .result) (c .number-of .ensures) (c .before .before .before .sign .ensures))
+    rw (toZ-ofZ w64 (a .args .compliance) (a .fits .compliance)) at (called _ _ _ (c .before .before .before .sign .result) (c .number-of .ensures) (c .before .before .before .sign .ensures))
 
 pub study-sign-spec : {M : Type 1} → statement M
 study-sign-spec = tie.close (tie.spec (λ c κs. search needs) (λ c κs. search needs) (λ c. search needs) returns)

@@ -4,7 +4,7 @@ use Rattle.engine.proofs.study_start.Statement.{statement}
 use Rattle.engine.proofs.study_start.Tie as tie
 
 returns : tie.Need-returns
-returns c = called (c .before .before .before .before .before .start .result) (c .number-of .ensures) (c .before .before .before .before .before .start .ensures)
+returns c = called _ _ _ (c .before .before .before .before .before .start .result) (c .number-of .ensures) (c .before .before .before .before .before .start .ensures)
 
 pub study-start-spec : {M : Type 1} → statement M
 study-start-spec =

@@ -4,7 +4,7 @@ use Rattle.engine.proofs.study_step.Statement.{statement}
 use Rattle.engine.proofs.study_step.Tie as tie
 
 returns : tie.Need-returns
-returns c = called (c .before .before .before .before .before .step .result) (c .number-of .ensures) (c .before .before .before .before .before .step .ensures)
+returns c = called _ _ _ (c .before .before .before .before .before .step .result) (c .number-of .ensures) (c .before .before .before .before .before .step .ensures)
 
 pub study-step-spec : {M : Type 1} → statement M
 study-step-spec =

@@ -1,6 +1,6 @@
 use mathlib.Core.Path.{ap, _∙_}
 use borrow.Author.Needs.{needs}
-use Rattle.engine.specs.Study.{numberOf}
+use Rattle.book.specs.Question.{numberOf}
 use Rattle.engine.proofs.Calling.{write-number}
 use Rattle.engine.proofs.study_write.Statement.{statement}
 use Rattle.engine.proofs.study_write.Tie as tie

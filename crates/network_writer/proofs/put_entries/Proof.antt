@@ -27,7 +27,7 @@ loop-holds c = filled-none (λ k l. length-u32 _) (c .before .before .pre .2)
 loop-again : tie.Need-loop-again Inv-loop μ-loop
 loop-again c =
     let l = c .before .before .before .before .before .before in
-    filled-more (λ k h. length-u32 _) (l .before .before .before .pre .2) (l .loop .inv) (c .before .before .before .before .before .loop-test .taken) (span (16 + 4 * l .loop .j) 4) (c .before .before .put-entry .ensures)
+    filled-more (λ k h. length-u32 _) (l .before .before .before .pre .2) (l .loop .inv) (c .before .before .before .before .before .loop-test .taken) (span (16 + 4 * l .loop .j) 4) (c .before .before .put-u32 .ensures)
 
 returns : tie.Need-returns Inv-loop μ-loop
 returns c = filled-all (λ k l. length-u32 _) (c .before .before .before .before .pre .2) (c .before .loop .inv) (c .loop-test .left)

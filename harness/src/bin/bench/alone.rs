@@ -22,6 +22,7 @@ fn row((n, curves): (usize, usize)) -> Row {
         name: "step alone",
         n,
         filled: None,
+        parts: 1,
         engine: Box::new(taken_step(&network)),
         less: Some(Box::new(refused_step(&network))),
         oracle: Box::new(Typed {

@@ -2,6 +2,7 @@
 //! the same case can be stepped again and again.
 
 use harness::random::Random;
+use harness::surveys::Day;
 use oracle::case::{Alinea, Case, Setting, Sign};
 use oracle::file::{Curve, Network, Segment};
 
@@ -66,6 +67,14 @@ pub fn arrivals(network: &Network) -> Vec<Vec<u32>> {
         places.map(&mut arriving).collect()
     };
     (0..64).map(&mut step).collect()
+}
+
+/// A survey file of so many rows: the same arrivals again and again.
+pub fn survey(network: &Network, rows: usize) -> Vec<u8> {
+    let n = network.segments.len();
+    let arriving = arrivals(network).into_iter().flatten().cycle();
+    let list = arriving.take(n * rows).collect();
+    Day { n, list }.file()
 }
 
 /// The road has neither emptied nor jammed: mv per lane-metre over the road

@@ -17,6 +17,7 @@ fn row((n, curves): (usize, usize)) -> Row {
         name: "check",
         n,
         filled: None,
+        parts: 1,
         engine: Box::new(move || engine::network_check(black_box(&bytes))),
         less: None,
         oracle: Box::new(move || u64::from(file::check(black_box(&same)))),

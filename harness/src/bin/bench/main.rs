@@ -19,27 +19,34 @@
 //!   filled; the segment is the last.
 //! - hold recall drop: three calls, each judged, on slot 6. Where slots are
 //!   filled it is Drop, Hold, Recall: slot 6 is empty between the first two.
+//! - survey read, survey write: a file of 1,000 rows, and its list.
+//! - row of a run: a run of 250 rows, divided by them. Below the table the
+//!   engine's time stands beside that of its step.
+//! - day of 20000 rows: a run of as many rows as a line has steps.
 //!
-//! "Slots" is how many are filled; check, step alone and start read none.
+//! "Slots" is how many are filled; check, step alone, start, survey read and
+//! survey write read none.
 //!
-//! In the time: the caller's loop, a few words put back before every step so
-//! that no bound is reached, and a look at the number. Not in it: refused
-//! calls, Sign, Meter, the run count, Write, the program `tallies`; arrays
-//! that are not in the processor's caches; several threads.
+//! In the time: the caller's loop, a few words put back before every step or
+//! run so that no bound is reached, and a look at the number. Not in it:
+//! refused calls, Sign, Meter, the run count, Write, the program `tallies`;
+//! arrays that are not in the processor's caches; several threads.
 
 mod alone;
 mod busy;
 mod check;
 mod study;
+mod survey;
 mod table;
 
 fn main() {
-    table::print(rows);
+    table::print(rows, [survey::ROW_OF_A_RUN, "step"]);
 }
 
 fn rows() -> Vec<table::Row> {
     let mut rows = check::rows();
     rows.extend(alone::rows());
     rows.extend(study::rows());
+    rows.extend(survey::rows());
     rows
 }

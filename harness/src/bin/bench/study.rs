@@ -59,16 +59,35 @@ pub fn refused_step(network: &Network) -> impl Side {
     Lent::new(network, 0, engine_side::refused_step)
 }
 
+/// A run of so many rows, of which each is a part or all are one.
+pub fn run(name: &'static str, network: &Network, filled: usize, rows: usize, parts: usize) -> Row {
+    let works = [engine_side::run, oracle_side::run];
+    let lent = works.map(|work| Lent::new(network, filled, work).with_survey(rows));
+    Row {
+        parts,
+        ..sides(name, lent, 1)
+    }
+}
+
 fn row(name: &'static str, network: &Network, filled: usize, works: [Work; 2]) -> Row {
-    let [mut engine, mut oracle] = works.map(|work| Lent::new(network, filled, work));
-    for _ in 0..100 {
+    sides(
+        name,
+        works.map(|work| Lent::new(network, filled, work)),
+        100,
+    )
+}
+
+/// Both sides, the same after so many calls.
+fn sides(name: &'static str, [mut engine, mut oracle]: [Lent; 2], calls: u64) -> Row {
+    for _ in 0..calls {
         assert_eq!((engine.call(), oracle.call()), (0, 0), "accepted calls");
     }
     assert!(engine.same(&oracle), "{name}: the sides differ");
     Row {
         name,
-        n: network.segments.len(),
-        filled: Some(filled),
+        n: engine.arguments.segment as usize,
+        filled: Some(engine.arguments.case as usize),
+        parts: 1,
         engine: Box::new(engine),
         less: None,
         oracle: Box::new(oracle),

@@ -13,6 +13,10 @@ const REPETITIONS: usize = 5;
 const ROUNDS: usize = 101;
 /// Time that a round of the oracle should take.
 const ROUND_NANOSECONDS: f64 = 250_000.0;
+/// A call that takes the oracle longer than this is a round by itself, and
+/// there are only few.
+const LONG_NANOSECONDS: f64 = 10_000_000.0;
+const FEW_ROUNDS: usize = 5;
 
 /// What is called again and again.
 pub trait Side {
@@ -47,6 +51,8 @@ pub struct Row {
     pub n: usize,
     /// Filled slots, where the row reads any.
     pub filled: Option<usize>,
+    /// Equal parts of a call: times are those of one.
+    pub parts: usize,
     pub engine: Box<dyn Side>,
     /// Taken off the engine's time, round by round.
     pub less: Option<Box<dyn Side>>,
@@ -67,8 +73,9 @@ impl Times {
 }
 
 /// Times the rows that are made for each repetition, and prints the table.
-/// All are made before and kept, so that no two share a place in memory.
-pub fn print(make: impl Fn() -> Vec<Row>) {
+/// All are made before and kept, so that no two share a place in memory. The
+/// engine's times of two rows are put beside each other where asked for.
+pub fn print(make: impl Fn() -> Vec<Row>, beside: [&str; 2]) {
     let mut repetitions: Vec<Vec<Row>> = (0..REPETITIONS).map(|_| make()).collect();
     let timed = |rows: &mut Vec<Row>| rows.iter_mut().map(Row::time).collect();
     let times: Vec<Vec<Times>> = repetitions.iter_mut().map(timed).collect();
@@ -84,22 +91,45 @@ pub fn print(make: impl Fn() -> Vec<Row>) {
     let highest = ratios().fold(f64::MIN, f64::max);
     println!("\n{REPETITIONS} repetitions of {ROUNDS} rounds a side, engine and oracle in turn; times are medians of rounds.");
     println!("Ratio: the middle of the repetitions, with its times. Of all rows: {lowest:.2} to {highest:.2}.");
+    print_beside(&repetitions[0], &times, beside);
+}
+
+/// The engine's time of the one row divided by that of the other, with as many
+/// segments and filled slots: the middle of the repetitions, and both ends.
+fn print_beside(rows: &[Row], times: &[Vec<Times>], [name, other]: [&str; 2]) {
+    let named = |name| (0..rows.len()).filter(move |&place| rows[place].name == name);
+    for (one, other) in named(name).zip(named(other)) {
+        let Row { n, filled, .. } = rows[one];
+        assert_eq!((n, filled), (rows[other].n, rows[other].filled));
+        let ratio = |times: &Vec<Times>| times[one].engine / times[other].engine;
+        let mut ratios: Vec<f64> = times.iter().map(ratio).collect();
+        ratios.sort_by(f64::total_cmp);
+        let [lowest, middle, highest] = [0, REPETITIONS / 2, REPETITIONS - 1].map(|at| ratios[at]);
+        let (of, filled) = (rows[other].name, filled.unwrap_or(0));
+        println!("{name} / {of}, engine, n {n}, {filled} slots filled: {middle:.2} ({lowest:.2} to {highest:.2})");
+    }
 }
 
 impl Row {
     /// One repetition.
     fn time(&mut self) -> Times {
-        let calls = (ROUND_NANOSECONDS / self.oracle.round(100)) as u64 + 1;
+        let (calls, rounds) = match self.oracle.round(1) {
+            LONG_NANOSECONDS.. => (1, FEW_ROUNDS),
+            _ => {
+                let calls = ROUND_NANOSECONDS / self.oracle.round(100);
+                (calls as u64 + 1, ROUNDS)
+            }
+        };
         let [mut engine, mut oracle] = [const { Vec::new() }; 2];
-        for _ in 0..ROUNDS {
+        for _ in 0..rounds {
             let whole = self.engine.round(calls);
             let less = self.less.as_mut().map_or(0.0, |side| side.round(calls));
             engine.push(whole - less);
             oracle.push(self.oracle.round(calls));
         }
         Times {
-            engine: median(engine),
-            oracle: median(oracle),
+            engine: median(engine) / self.parts as f64,
+            oracle: median(oracle) / self.parts as f64,
         }
     }
 

@@ -2,9 +2,11 @@
 
 use super::source::{any_list, out_of, Source};
 use super::Scene;
-use crate::calls::{Call, Question};
+use crate::calls::{Call, Question, RUN_FIGURES};
 use crate::cases::{arrivals, spoil_arrival, spoil_length};
+use crate::damages::{in_turn, SURVEY};
 use crate::random::Random;
+use crate::surveys::{any_survey, Day};
 use oracle::book::SLOTS;
 use oracle::case::Setting;
 
@@ -49,6 +51,30 @@ impl Scene<'_> {
             spoil_length(random, &mut arrivals);
         }
         arrivals.into()
+    }
+
+    /// A run of right rows; else a row is refused, the file is damaged, or
+    /// there is too little room.
+    pub(super) fn run(&self, from: &mut Source) -> Call {
+        let file = match from {
+            Source::Any(next) => any_survey(next, self.network.segments.len()),
+            Source::Suited { random, wrong } => {
+                let [damaged, spoilt] = [wrong.next(), wrong.next()];
+                let mut day = Day::some(random, self.network);
+                if spoilt {
+                    day.spoil_row(random, self.network);
+                }
+                let mut file = day.file();
+                if damaged {
+                    (in_turn(&SURVEY, random.number()).apply)(&mut file, 0, random);
+                }
+                file
+            }
+        };
+        Call::Run {
+            file: file.into(),
+            room: from.room(RUN_FIGURES),
+        }
     }
 
     /// A question with so many figures about a case; `own` draws all that the

@@ -14,12 +14,12 @@ abbrev listed : Head → ℕ → ℕ → ℕ → List ℕ
 listed h x y z = h .step ∷ h .size ∷ h .curves ∷ h .tau ∷ h .nu ∷ h .kappa ∷ h .delta ∷ x ∷ y ∷ z ∷ []
 
 read :
-    (c : tie.After-byte-of3) →
-    listed (c .before .before .before .head-of .result) (c .before .before .byte-of .result) (c .before .byte-of2 .result) (c .byte-of3 .result)
+    (c : tie.After-byte-at3) →
+    listed (c .before .before .before .head-of .result) (c .before .before .byte-at .result) (c .before .byte-at2 .result) (c .byte-at3 .result)
     ≡ headValues (now (c .before .before .before .before .before .args .file))
 read c =
     let d = c .before .before .before in
-    λ t. listed (d .head-of .ensures t) (c .before .before .byte-of .ensures .0 t) (c .before .byte-of2 .ensures .0 t) (c .byte-of3 .ensures .0 t)
+    λ t. listed (d .head-of .ensures t) (c .before .before .byte-at .ensures .0 t) (c .before .byte-at2 .ensures .0 t) (c .byte-at3 .ensures .0 t)
 
 returns : tie.Need-returns
 returns c = ap (λ (l : List ℕ). getD l (c .before .before .before .before .before .before .args .rule) 0) (read (c .before))

@@ -12,7 +12,7 @@ returns c =
     let z = r .before in
     c .first-held .ensures
     ∙ ap firstHeld (r .head-rules .ensures)
-    ∙ head-read (now (z .before .before .before .before .before .args .file)) (z .before .before .before .head-of .ensures) (z .before .before .byte-of .ensures .0) (z .before .byte-of2 .ensures .0) (z .byte-of3 .ensures .0)
+    ∙ head-read (now (z .before .before .before .before .before .args .file)) (z .before .before .before .head-of .ensures) (z .before .before .byte-at .ensures .0) (z .before .byte-at2 .ensures .0) (z .byte-at3 .ensures .0)
 
 pub head-rule-spec : {M : Type 1} → statement M
 head-rule-spec =

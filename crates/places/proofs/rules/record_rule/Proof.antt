@@ -13,12 +13,12 @@ returns c =
     let z = h .before in
     c .first-held .ensures
     ∙ ap firstHeld (r .record-rules .ensures)
-    ∙ record-read (now (z .before .before .before .before .before .args .file)) (h .head-of .ensures) _ (z .before .before .before .record-start .ensures .0) (r .before .segment-of .ensures) (z .before .before .byte-of .ensures .0) (z .before .byte-of2 .ensures .0) (z .byte-of3 .ensures .0)
+    ∙ record-read (now (z .before .before .before .before .before .args .file)) (h .head-of .ensures) _ (z .before .before .before .record-start .ensures .0) (r .before .segment-of .ensures) (z .before .before .byte-at .ensures .0) (z .before .byte-at2 .ensures .0) (z .byte-at3 .ensures .0)
 
 pub record-rule-spec : {M : Type 1} → statement M
 record-rule-spec =
     tie.close
     (tie.spec
-    (λ c κs. search needs) (λ c. search needs) (λ c. search needs) (λ c κs. search needs) (λ c. search needs)
+    (λ c κs. search needs) (λ c. search needs) (λ c κs. search needs) (λ c. search needs)
     (λ c κs. search needs) (λ c. search needs) (λ c κs. search needs) (λ c κs. search needs) (λ c κs. search needs)
     (λ c κs. search needs) (λ c. search needs) (λ c κs. search needs) returns)

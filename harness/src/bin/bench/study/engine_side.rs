@@ -3,7 +3,7 @@
 use super::lent::Lent;
 use crate::busy::LINE_STEPS;
 use harness::engine::{study_drop, study_hold, study_recall};
-use harness::engine::{study_report, study_report_segment, study_start, study_step};
+use harness::engine::{study_report, study_report_segment, study_run, study_start, study_step};
 use oracle::book::SLOTS;
 use std::hint::black_box;
 
@@ -17,6 +17,12 @@ pub fn start(lent: &mut Lent) -> u64 {
 pub fn step(lent: &mut Lent) -> u64 {
     let (words, speeds, arrivals) = lent.next_step();
     study_step(words, speeds, black_box(arrivals))
+}
+
+pub fn run(lent: &mut Lent) -> u64 {
+    let (words, speeds, figures, file) = lent.next_run();
+    let number = study_run(words, speeds, black_box(file), figures);
+    number + lent.rows_left()
 }
 
 /// Read and judged, then refused by 16.

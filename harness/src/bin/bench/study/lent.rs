@@ -2,10 +2,12 @@
 
 use crate::busy::{self, LINE_STEPS};
 use crate::table::Side;
+use harness::calls::RUN_FIGURES;
 use harness::random::Random;
 use harness::stored_case::{state_word, total_word};
 use harness::stored_case::{ARRIVALS, COUNT, EXITS, STEPS, TIME};
 use harness::study::{case_word, speeds_for, words_for, Study, RUNS};
+use harness::surveys::row_count;
 use oracle::book::SLOTS;
 use oracle::file::{self, Network};
 
@@ -30,6 +32,8 @@ pub struct Arguments {
     pub lists: [Vec<u32>; 3],
     pub wide_lists: [Vec<u64>; 3],
     arrivals: Vec<Vec<u32>>,
+    /// A survey file, where rows are run.
+    survey: Vec<u8>,
     /// The case that reports are of: the live one, or the last filled slot.
     pub case: u64,
     /// The segment that a report is of.
@@ -57,6 +61,12 @@ impl Lent {
         }
     }
 
+    /// The same with a survey file of so many rows.
+    pub fn with_survey(mut self, rows: usize) -> Lent {
+        self.arguments.survey = busy::survey(&self.arguments.network, rows);
+        self
+    }
+
     /// Every word, every bit and every figure is the same.
     pub fn same(&self, other: &Lent) -> bool {
         let bits = |lent: &Lent| lent.speeds.iter().map(|v| v.to_bits()).collect::<Vec<_>>();
@@ -71,15 +81,40 @@ impl Lent {
 
     /// The same for the step after so many.
     pub fn step_after(&mut self, steps: u64) -> (&mut [u64], &mut [f64], &[u32]) {
+        self.put_back(steps);
+        let arrivals = &self.arguments.arrivals;
+        let arrivals = &arrivals[self.turn % arrivals.len()];
+        self.turn += 1;
+        (&mut self.words, &mut self.speeds, arrivals)
+    }
+
+    /// Puts totals and run count back, and gives the arrays, the figures and
+    /// the survey file of the next run.
+    pub fn next_run(&mut self) -> (&mut [u64], &mut [f64], &mut [u64], &[u8]) {
+        let rows = row_count(&self.arguments.survey);
+        self.put_back((self.turn * rows) as u64 % LINE_STEPS);
+        self.turn += 1;
+        let figures = &mut self.figures[..RUN_FIGURES];
+        (
+            &mut self.words,
+            &mut self.speeds,
+            figures,
+            &self.arguments.survey,
+        )
+    }
+
+    /// Rows that the last run did not take.
+    pub fn rows_left(&self) -> u64 {
+        row_count(&self.arguments.survey) as u64 - self.figures[0]
+    }
+
+    /// Totals and run count as after so many steps on the line.
+    fn put_back(&mut self, steps: u64) {
         let n = self.arguments.network.segments.len();
         self.words[RUNS] = 0;
         let totals = &mut self.words[case_word(n, 0) + total_word(n, 0)..];
         totals[STEPS] = steps;
         (totals[ARRIVALS], totals[EXITS], totals[TIME]) = (0, 0, 0);
-        let arrivals = &self.arguments.arrivals;
-        let arrivals = &arrivals[self.turn % arrivals.len()];
-        self.turn += 1;
-        (&mut self.words, &mut self.speeds, arrivals)
     }
 }
 
@@ -111,6 +146,7 @@ impl Arguments {
             lists: wide_lists.each_ref().map(narrow),
             wide_lists,
             arrivals: busy::arrivals(network),
+            survey: Vec::new(),
             case: filled as u64,
             segment: segments.len() as u64,
         }

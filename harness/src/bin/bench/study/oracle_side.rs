@@ -22,6 +22,16 @@ pub fn step(lent: &mut Lent) -> u64 {
     number(study::call(words, speeds, &Call::Step { arrivals }))
 }
 
+pub fn run(lent: &mut Lent) -> u64 {
+    let (words, speeds, figures, file) = lent.next_run();
+    let file = black_box(file);
+    let result = study::call(words, speeds, &Call::Run { file });
+    if let Ok(taken) = &result {
+        figures.copy_from_slice(taken);
+    }
+    number(result) + lent.rows_left()
+}
+
 pub fn report(lent: &mut Lent) -> u64 {
     report_of(lent, &Question::Case)
 }

@@ -1,0 +1,3 @@
+pub mod File
+pub mod Read
+pub mod Written

@@ -9,7 +9,7 @@ use Rattle.laws.proofs.First.{row-applies, row-skipped, row-passed}
 use Rattle.book.specs.Arrangement.{networkAt, runCountAt, caseAt}
 use Rattle.book.specs.Sound.{sound}
 use Rattle.book.specs.Calls.{Call, isStart}
-use Rattle.book.specs.Question.{refused, Answer}
+use Rattle.book.specs.Question.{refused, Answer, numberOf}
 use Rattle.book.specs.Refusal.{refusal}
 use Rattle.book.specs.Perform.{Arrays, Outcome, unless, groundsAt, refusalAt, answerOf, perform, lent, Performs, stored}
 
@@ -21,6 +21,12 @@ unless-refused (suc m) before after some = refl
 pub unless-accepted : {S : Type 0} (m : ℕ) (before : S) (after : Outcome S) → m ≡ 0 → unless m before after ≡ after
 unfolding unless
 unless-accepted m before after z = rw z
+
+-- the number that is said is the one that refused
+pub unless-number : {S : Type 0} (m : ℕ) (before : S) (after : Outcome S) → numberOf (after .answer) ≡ 0 → numberOf (unless m before after .answer) ≡ m
+unfolding unless
+unless-number zero before after e = e
+unless-number (suc m) before after e = refl
 
 module _ (c : Call) (words : List ℕ) (speeds : List Float) where
   abbrev a : Arrays

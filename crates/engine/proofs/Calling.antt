@@ -20,6 +20,7 @@ use Rattle.book.specs.declared.Verdict.{Verdict}
 use Rattle.book.specs.declared.Verdict.the-variants as verdict
 use Rattle.book.specs.Perform.{Arrays, Outcome, lent, refusalAt, answerOf, unless, perform, Gives, Performs}
 use Rattle.book.specs.Run.{unlessStopped, stepCall, runRows, runRefusal, performRun, PerformsRun}
+use Rattle.book.proofs.Performing.{unless-number}
 use Rattle.book.proofs.Sim.{onArrays}
 use Rattle.book.specs.Write.{writeRefusal, writeAnswer}
 use Rattle.engine.specs.Study.{toldNumber, toldWords, figuresUnless, Told, Called, CalledRun, surveySays, CalledRead}
@@ -141,11 +142,6 @@ module _ (words : List ℕ) (speeds : List Float) (o : Outcome Arrays) where
   abbrev either : ℕ → Outcome Arrays
   either m = unless m (lent words speeds) o
 
-  either-number : numberOf (o .answer) ≡ 0 → (m : ℕ) → numberOf (either m .answer) ≡ m
-  unfolding unless
-  either-number e zero = e
-  either-number e (suc m) = refl
-
   either-says : {xs : List ℕ} → o .answer ≡ figures xs → (m : ℕ) → either m .answer ≡ figuresUnless m xs
   unfolding unless ifAccepted
   either-says e zero = e
@@ -180,7 +176,7 @@ unfolding perform
 called c words speeds v e p =
     let a = lent words speeds in
     let says = verdict-told [] v in
-    let own = e ∙ ap numberOf (p .answers) ∙ either-number words speeds (onArrays c a) (no-number c a) (refusalAt c a) in
+    let own = e ∙ ap numberOf (p .answers) ∙ unless-number (refusalAt c a) a (onArrays c a) (no-number c a) in
     either-told words speeds (onArrays c a) (refusalAt c a) own (e ∙ says .0, says .1) p
 
 accepted-or-not : {A : Type 0} (r : ℕ) (l : A) → l ≡ ifAccepted r l l

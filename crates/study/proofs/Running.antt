@@ -13,10 +13,10 @@ use Rattle.survey_file.proofs.Accepted.{AcceptedSurvey, survey-accepted, length
 use Rattle.book.specs.Arrangement.{sizeAt}
 use Rattle.book.specs.Sound.{sound}
 use Rattle.book.specs.Question.{Answer, refused, figures, numberOf}
-use Rattle.book.specs.Perform.{Arrays, Outcome, lent, refusalAt, unless, stored, answerOf, perform, Gives}
+use Rattle.book.specs.Perform.{Arrays, Outcome, lent, refusalAt, stored, answerOf, perform, Gives}
 use Rattle.book.specs.Run.{stepCall, unlessStopped, runRows, runRefusal, performRun}
 use Rattle.book.proofs.Rows.{RowReady, row-next, row-words, row-speeds}
-use Rattle.book.proofs.Performing.{unless-refused, unless-accepted}
+use Rattle.book.proofs.Performing.{unless-refused, unless-accepted, unless-number}
 use Rattle.book.proofs.Sim.{onArrays}
 use Rattle.study.specs.Rows.{RowTaken}
 
@@ -35,12 +35,8 @@ running-none r = record { within = omega arith; words-long = refl; speeds-long =
 
 module _ (ds : List ℕ) (a : Arrays) where
   step-number : numberOf (perform (stepCall ds) a .answer) ≡ refusalAt (stepCall ds) a
-  unfolding perform answerOf unless
-  step-number = go (refusalAt (stepCall ds) a)
-    where
-      go : (m : ℕ) → numberOf (unless m a (onArrays (stepCall ds) a) .answer) ≡ m
-      go zero = refl
-      go (suc m) = refl
+  unfolding perform answerOf
+  step-number = unless-number (refusalAt (stepCall ds) a) a (onArrays (stepCall ds) a) refl
 
   step-stays : (refusalAt (stepCall ds) a ≡ 0 → ⊥) → perform (stepCall ds) a .state ≡ a
   unfolding perform

@@ -5,7 +5,7 @@ use case_words::RUN_WORD;
 use refusal::calls;
 ghost use mathlib.Core.Path.{_≡_};
 ghost use Prim.Native.Nat.{_<_};
-ghost use lib.ListN.{length};
+ghost use lib.ListN.{length, replicate};
 ghost use Rattle.survey_file.specs.File.{rowsOn, rowOn, rowsIn};
 ghost use Rattle.survey_file.proofs.Accepted.{AcceptedSurvey};
 ghost use Rattle.book.specs.Perform.{lent, perform, Gives};
@@ -32,7 +32,7 @@ pub(crate) fn step_row(words: &mut [u64], speeds: &mut [f64], arrivals: &[u32], 
 
 // Room for the arrivals of one row.
 fn no_arrivals() -> [u32; 40]
-    ensures { λ r. ⌜ length r ≡ 40 ⌝ }
+    ensures { λ r. ⌜ r ≡ replicate 40 0 ⌝ }
 {
     [0; 40]
 }

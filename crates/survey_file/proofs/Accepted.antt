@@ -3,7 +3,7 @@ use Prim.Native.Nat.{ℕ, _+_, _*_, _≤_, _<_}
 use mathlib.Core.Path.{_≡_, sym, ap, ap₂, _∙_}
 use mathlib.Core.Bool.{true}
 use mathlib.Core.List.{List, [], _∷_}
-use native.Mathlib.Nat.{mul-le-mul-left}
+use native.Mathlib.Nat.{mul-comm, mul-le-mul-left}
 use native.Mathlib.Numerals.{add-one}
 use native.Mathlib.Omega.{arith}
 use lib.ListN.{length, drop}
@@ -13,8 +13,9 @@ use Rattle.laws.specs.Lists.{table}
 use Rattle.laws.specs.BigEndian.{u16At}
 use Rattle.laws.proofs.First.{row-passed, row-later}
 use Rattle.laws.proofs.Tests.{anyOf-false, inside-low, inside-high}
-use Rattle.laws.proofs.Lists.{length-table, getD-table}
+use Rattle.laws.proofs.Lists.{length-table, getD-table, parts-ext, table-blocks}
 use Rattle.survey_file.specs.File.{hasMark, sizeOn, rowsOn, arrivalOn, arrivalsOn, rowOn, rowsIn, surveyNumber}
+use Rattle.survey_file.specs.Read.{RowsAreRead}
 
 pub record AcceptedSurvey (n : ℕ) (b : List ℕ) : Type 0 where
   pub long : 8 ≤ length b
@@ -56,7 +57,7 @@ module _ (b : List ℕ) where
 
   pub length-row : (r : ℕ) → length (rowOn b r) ≡ sizeOn b
   unfolding rowOn
-  length-row r = length-table (λ i. arrivalOn b (r * sizeOn b + i)) (sizeOn b)
+  length-row r = length-table _ (sizeOn b)
 
   -- the rows from row r on begin with it
   pub rows-from : (r : ℕ) → r < rowsOn b → drop r (rowsIn b) ≡ rowOn b r ∷ drop (r + 1) (rowsIn b)
@@ -69,6 +70,14 @@ module _ (b : List ℕ) where
   pub row-is : {n : ℕ} → sizeOn b ≡ n → (r : ℕ) → table (λ i. arrivalOn b (r * n + i)) n ≡ rowOn b r
   unfolding rowOn
   row-is e r = ap (λ (m : ℕ). table (λ i. arrivalOn b (r * m + i)) m) (sym e)
+
+pub rows-are-read : RowsAreRead
+unfolding rowOn arrivalsOn
+rows-are-read b =
+    let n = sizeOn b in
+    parts-ext _ (λ r. table (λ i. arrivalOn b (n * r + i)) n) (rowsOn b) (λ r l. ap (λ (m : ℕ). table (λ i. arrivalOn b (m + i)) n) (mul-comm r n))
+    ∙ table-blocks (arrivalOn b) n (rowsOn b)
+    ∙ ap (table (arrivalOn b)) (mul-comm n (rowsOn b))
 
 -- row r of the rows is within the file
 pub row-within : {n : ℕ} {b : List ℕ} → AcceptedSurvey n b → (r : ℕ) → r < rowsOn b → 8 + 4 * (r * n + n) ≤ length b

@@ -18,6 +18,9 @@ use Rattle.study.proofs.rows.take_row.Tie as tie
 abbrev start : tie.After-row2 → tie.Start
 start c = c .before .before .before .before .before .before
 
+forty : (c : tie.After-no-arrivals) → length (c .no-arrivals .result) ≡ 40
+forty c = ap length (c .no-arrivals .ensures)
+
 -- the first n places are the row
 first-are : (c : tie.After-row2) → let a = start c .args in take (a .n) (c .row2 .last .1 .1 .1 .0) ≡ rowOn (a .file .now) (a .k)
 first-are c =
@@ -32,10 +35,10 @@ pub take-row-spec : {M : Type 1} → statement M
 take-row-spec =
     tie.close
     (tie.spec
-    (λ c κs. search needs) (λ c. sym (c .before .no-arrivals .ensures))
+    (λ c κs. search needs) (λ c. sym (forty (c .before)))
     (λ c κs.
     let s = c .before .before .before .before .before in
-    (row-within (s .pre .1 .0) (s .args .k) (s .pre .1 .1), le-trans (s .pre .1 .0 .size-high) (le-of-eq (sym (c .before .no-arrivals .ensures)))))
+    (row-within (s .pre .1 .0) (s .args .k) (s .pre .1 .1), le-trans (s .pre .1 .0 .size-high) (le-of-eq (sym (forty (c .before))))))
     (λ c. let r = c .before .before .before in omega (arith, first-many r, length-take (start r .args .n) (r .row2 .last .1 .1 .1 .0)))
     (λ c. sym (first-many (c .before .before .before .before)))
     (λ c κs. let r = c .before .before .before .before in (start r .pre .0, first-many r))

@@ -10,6 +10,7 @@ pub use arrivals::{arrivals, spoil_arrival, spoil_length};
 pub use figures::sign;
 use oracle::case::{Case, SegmentState, Setting};
 use oracle::file::Network;
+use oracle::network::Origin;
 pub use ramps::{alinea, fixed, set_any};
 
 /// Most mv of any figure, and most mv in all.
@@ -72,8 +73,12 @@ fn state(random: &mut Random, network: &Network, place: usize) -> SegmentState {
         last_outflow: random.edge(0, MOST_MV),
         last_release: random.edge(0, MOST_MV),
     };
-    if place > 0 && segment.origin {
-        set_any(random, segment, &mut state);
+    match network.origin(place) {
+        Origin::Mainstream if random.once_in(2) => {
+            figures::put_at_entry(random, network.curve(segment), segment, &mut state);
+        }
+        Origin::Ramp => set_any(random, segment, &mut state),
+        _ => {}
     }
     if let Setting::Alinea(alinea) = state.setting {
         if random.once_in(2) {

@@ -102,17 +102,25 @@ fn first_entry(random: &mut Random, step: u64, binding: bool) -> u64 {
     random.edge(least, most)
 }
 
-/// A curve that never rises: flat, with one drop, falling slowly, or soon 0.
+/// A curve that never rises: flat, with one drop, falling slowly, soon 0, or in
+/// flat stretches.
 fn curve(random: &mut Random, first: u32) -> Curve {
     let mut entries = [first; ENTRIES];
-    match random.below(4) {
+    match random.below(5) {
         0 => {}
         1 => {
             let drop_at = random.edge(1, 200) as usize;
             entries[drop_at..].fill(random.edge(0, u64::from(first)) as u32);
         }
         2 => fall(random, &mut entries, u64::from(first) / 100),
-        _ => fall(random, &mut entries, u64::from(first)),
+        3 => fall(random, &mut entries, u64::from(first)),
+        _ => {
+            fall(random, &mut entries, u64::from(first) / 20);
+            let width = random.between(2, 60) as usize;
+            entries
+                .chunks_mut(width)
+                .for_each(|stretch| stretch.fill(stretch[0]));
+        }
     }
     entries
 }

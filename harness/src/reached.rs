@@ -1,4 +1,7 @@
-//! Which numbers the C functions answered in this run, and how runs ended.
+//! Which numbers the C functions answered in this run, how runs ended, and what
+//! steps met at a mainstream origin.
+
+pub mod mainstream;
 
 use crate::calls::Answer;
 use crate::engine::Function;
@@ -63,7 +66,8 @@ pub fn say() -> bool {
         println!("{name:<22} {:>9}  {}", times(0), refused.join(", "));
         complete &= times(0) > 0 && numbers.iter().all(|&number| times(number) > 0);
     }
-    say_ends() && complete
+    complete &= say_ends();
+    mainstream::say() && complete
 }
 
 /// The same for the ends of runs, in one line.

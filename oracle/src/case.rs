@@ -109,9 +109,22 @@ impl Sign {
             _ => Sign::Shown { limit, compliance },
         }
     }
+
+    /// The speed of a shown sign: limit × (1000 + a), in m/h.
+    pub fn speed(self) -> Option<u64> {
+        match self {
+            Sign::Dark => None,
+            Sign::Shown { limit, compliance } => Some(limit * (1000 + compliance) as u64),
+        }
+    }
 }
 
 impl SegmentState {
+    /// s: the whole part of v, in m/h.
+    pub fn whole_speed(&self) -> u64 {
+        self.speed as u64
+    }
+
     /// A meter always starts afresh: open and ALINEA begin at R = Q.
     pub fn set_meter(&mut self, segment: &Segment, setting: Setting) {
         self.setting = setting;

@@ -45,10 +45,35 @@ pub struct Segment {
     pub most_released: u32,
 }
 
+/// What enters a segment from outside.
+#[derive(Clone, Copy, Debug, PartialEq, Eq)]
+pub enum Origin {
+    None,
+    /// The freeway goes on upstream of the study.
+    Mainstream,
+    /// An on-ramp, which can be metered and merges.
+    Ramp,
+}
+
 impl Network {
+    /// The origin of the segment at that place (from 0): mainstream where no
+    /// segment is before it.
+    pub fn origin(&self, place: usize) -> Origin {
+        match (self.segments[place].origin, place) {
+            (false, _) => Origin::None,
+            (true, 0) => Origin::Mainstream,
+            (true, _) => Origin::Ramp,
+        }
+    }
+
+    /// The curve that the segment follows.
+    pub fn curve(&self, segment: &Segment) -> &Curve {
+        &self.curves[usize::from(segment.curve)]
+    }
+
     /// F: the first entry of the segment's curve, the free speed in m/h.
     pub fn free_speed(&self, segment: &Segment) -> u32 {
-        self.curves[usize::from(segment.curve)][0]
+        self.curve(segment)[0]
     }
 }
 

@@ -4,10 +4,11 @@
 //! product below fits 64 bits and every figure made binary64 is exact.
 
 pub mod flows;
+pub mod origin;
 pub mod speed;
 
 use crate::case::{Case, SegmentState};
-use crate::network::Network;
+use crate::network::{Network, Origin};
 use flows::Flows;
 use speed::Before;
 
@@ -26,7 +27,7 @@ pub fn step(network: &Network, case: &mut Case, arrivals: &[u32]) {
         let arrival = u64::from(arrivals[place]);
         let density_ahead = density_after(network, case, place, density);
         let state = &mut case.segments[place];
-        let flows = Flows::of(network, segment, state, arrival, case.steps);
+        let flows = Flows::of(network, place, state, arrival, case.steps);
         let before = Before {
             count: state.count,
             speed: state.speed,
@@ -34,7 +35,7 @@ pub fn step(network: &Network, case: &mut Case, arrivals: &[u32]) {
             upstream_speed,
             density_ahead,
         };
-        let merging = (segment.origin && place > 0).then_some(flows.release);
+        let merging = (network.origin(place) == Origin::Ramp).then_some(flows.release);
         state.speed = speed::new_speed(network, segment, state.sign, before, merging);
         settle(state, &flows, arrival, passed_on);
 

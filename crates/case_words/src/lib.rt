@@ -4,9 +4,9 @@ use metanet::Ramp;
 use metanet::SegmentState;
 use metanet::SignSetting;
 ghost use mathlib.Core.Path.{_≡_};
-ghost use mathlib.Core.Bool.{_&&_};
-ghost use Prim.Native.Nat.{_+_, _-_, _*_, _<_, _≤_, ℕ};
-ghost use lib.Dec.{eqb, ltb};
+ghost use mathlib.Core.Bool.{not, _&&_};
+ghost use Prim.Native.Nat.{_+_, _*_, _<_, _≤_, ℕ};
+ghost use lib.Dec.{eqb};
 ghost use lib.ListN.{length};
 ghost use Rattle.laws.specs.Real.{real};
 ghost use Rattle.metanet.specs.Words.{signIn, rampIn, flowsIn, stateIn};
@@ -76,12 +76,19 @@ pub fn state_of(w: &[u64], v: f64) -> SegmentState
     }
 }
 
-// Whether segment i, counted from 0, is an origin past segment 1: a release merges there, and it may be metered.
+// Whether the origin of segment i, counted from 0, is mainstream: it is bounded by speed.
+pub fn is_mainstream(i: usize) -> bool
+    ensures { λ r. ⌜ r ≡ eqb i 0 ⌝ }
+{
+    i == 0
+}
+
+// Whether segment i, counted from 0, has any other origin, a ramp: a release merges there, and it may be metered.
 pub fn is_on_ramp(origin: u64, i: usize) -> bool
-    ensures { λ r. ⌜ r ≡ (eqb origin 1 && ltb 0 i) ⌝ }
+    ensures { λ r. ⌜ r ≡ (eqb origin 1 && not (eqb i 0)) ⌝ }
 {
     if origin == 1 {
-        return 0 < i;
+        return !is_mainstream(i);
     }
     false
 }

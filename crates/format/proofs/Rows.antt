@@ -1,10 +1,10 @@
 -- What rows 4, 6, 7 and 8 say of the numbers that they do not refuse, and which of them refuses.
 use Prim.Native.Nat.{ℕ, zero, suc, _+_, _≤_, _<_}
 use mathlib.Core.Bool.{Bool, true, false}
-use mathlib.Core.Path.{_≡_, sym, _∙_}
+use mathlib.Core.Path.{_≡_, sym, ap, _∙_}
 use mathlib.Core.Logic.{⊎-elim}
 use native.Mathlib.Omega.{arith}
-use native.Mathlib.Nat.{eq-or-lt-of-le}
+use native.Mathlib.Nat.{eq-or-lt-of-le, le-trans, le-of-eq}
 use native.Mathlib.Numerals.{add-one}
 use lib.Dec.{eqb}
 use borrow.Author.Tests.{ltb-false, leb-false, eqb-false, eq-eqb}
@@ -54,13 +54,18 @@ module _ (e : ℕ → ℕ) where
         falls = λ j l. ltb-false _ _ (row-passed _ _ _ (firstOf-zero (rising e) 200 (row-later _ _ _ z) j l));
       }
 
-  -- no entry is above 200,000
+  -- none is above one before it
+  pub entries-fall : CurveWithin e → (i j : ℕ) → i ≤ j → j ≤ 200 → e j ≤ e i
+  entries-fall w i zero l m = let z : i ≡ 0 = omega (arith, l) in le-of-eq (ap e (sym z))
+  entries-fall w i (suc j) l m =
+      ⊎-elim
+      (λ p. le-of-eq (ap e (sym p)))
+      (λ k. le-trans (rw (sym (add-one j)) (w .falls j (omega arith))) (entries-fall w i j (omega (arith, k)) (omega arith)))
+      (eq-or-lt-of-le l)
+
+  -- and so none is above 200,000
   pub entry-high : CurveWithin e → (j : ℕ) → j ≤ 200 → e j ≤ 200000
-  entry-high w zero l = w .start-high
-  entry-high w (suc j) l = omega (arith, entry-high w j (omega arith), falls-suc j (omega arith))
-    where
-      falls-suc : (j : ℕ) → j < 200 → e (suc j) ≤ e j
-      falls-suc j h = rw (sym (add-one j)) (w .falls j h)
+  entry-high w j l = le-trans (entries-fall w 0 j (omega arith) l) (w .start-high)
 
 -- ---- row 7
 

@@ -12,7 +12,7 @@ use Rattle.format.specs.declared.Segment.{Segment}
 use Rattle.metanet.specs.declared.SegmentState.{SegmentState}
 use Rattle.metanet.specs.Case.{noState, stateOf}
 use Rattle.metanet.specs.Speed.{newSpeed}
-use Rattle.metanet.specs.Step.{newState, outflowNow, through, inflow, freeSpeed, stepState, stepStates, exitNow, exitsNow, vehiclesIn}
+use Rattle.metanet.specs.Step.{newState, outflowNow, through, inflow, freeSpeed, neighbours, stepState, stepStates, exitNow, exitsNow, vehiclesIn}
 use Rattle.metanet.specs.Sound.{mvMost}
 use Rattle.metanet.proofs.Ready.{SegmentOk, StateOk}
 use Rattle.metanet.proofs.SegmentLaws.{Within, keep-within, rate-high, release-waits, release-at-most-rate, outflow-at-most-count, exit-le}
@@ -37,6 +37,9 @@ module _ (h : Head) (entry : ℕ → ℕ → ℕ) (segment : ℕ → Segment) (s
   abbrev out : ℕ → ℕ
   out i = outflowNow h (segment i) (stateOf states i)
 
+  abbrev bound : ℕ → ℕ
+  bound i = neighbours h entry segment states i .bound
+
   pub new-is : (i : ℕ) → i < h .size → stateOf (stepStates h entry segment states t ds) i ≡ new i
   unfolding stepStates
   new-is i l = getD-table (stepState h entry segment states t ds) (h .size) i noState l
@@ -49,7 +52,7 @@ module _ (h : Head) (entry : ℕ → ℕ → ℕ) (segment : ℕ → Segment) (s
   -- one segment: what is there after, with what flows out, is what was there before, with what came
   one : (i : ℕ) → i < h .size → new i .count + new i .queue + out i ≡ vehiclesIn states i + getD ds i 0 + inflow h entry segment states i
   unfolding stepState newState
-  one i l = omega (arith, release-waits (ok i l) (row i l) t (getD ds i 0), outflow-at-most-count (ok i l) (row i l))
+  one i l = omega (arith, release-waits (ok i l) (row i l) t (getD ds i 0) (bound i), outflow-at-most-count (ok i l) (row i l))
 
   -- outflow is the exit part and what passes on
   split : (i : ℕ) → i < h .size → exitNow h entry segment states i + inflow h entry segment states (suc i) ≡ out i
@@ -86,7 +89,7 @@ module _ (h : Head) (entry : ℕ → ℕ → ℕ) (segment : ℕ → Segment) (s
         flows =
             record {
               outflow = omega (arith, row i l .count, outflow-at-most-count (ok i l) (row i l));
-              release = omega (arith, rate, ok i l .most-high, release-at-most-rate (segment i) (stateOf states i) t (getD ds i 0));
+              release = omega (arith, rate, ok i l .most-high, release-at-most-rate (segment i) (stateOf states i) t (getD ds i 0) (bound i));
             };
       }
 

@@ -18,6 +18,7 @@ pub mod Ready
 pub mod SameNetwork
 pub mod SegmentLaws
 pub mod SoundLaws
+pub mod SpeedBound
 pub mod StateWords
 pub mod Statements
 pub mod StepSound

@@ -9,7 +9,7 @@ use lib.Dec.{eqb}
 use lib.IntN.{ℤ, pos, negsuc}
 use lib.ListN.{length, set, length-set}
 use lib.Seq.{getD-set-same, getD-set-other}
-use borrow.Author.Tests.{ltb-false, eqb-true, eqb-false, lt-ltb, le-ltb, eq-eqb, ne-eqb}
+use borrow.Author.Tests.{ltb-false, eqb-true, eqb-false, le-ltb, eq-eqb, ne-eqb}
 use Rattle.laws.specs.First.{anyOf, outside}
 use Rattle.laws.proofs.Sums.{sum-ext}
 use Rattle.laws.proofs.Tests.{or-left, or-right, anyOf-false, inside, inside-low, inside-high}
@@ -147,8 +147,8 @@ module _ {w : Network} {s : Case} {l : Line} (g : Good w s l) (i : ℕ) (there :
       let none = eqb-false (segmentOf w (i - 1) .origin) 0 (or-right (eqb i 1) _ e) in
       let later = eqb-false i 1 (or-left (eqb i 1) _ e) in
       let origin : segmentOf w (i - 1) .origin ≡ 1 = omega (arith, none, net-within (g .net) .each (i - 1) in-network .origin-high) in
-      let past : 0 < i - 1 = omega (arith, later, inside-low 1 i (w .head .size) there) in
-      λ j. eq-eqb (segmentOf w (i - 1) .origin) 1 origin j && lt-ltb 0 (i - 1) past j
+      let past : (i - 1 ≡ 0 → ⊥) = λ z. omega (arith, z, later, inside-low 1 i (w .head .size) there) in
+      λ j. eq-eqb (segmentOf w (i - 1) .origin) 1 origin j && not (ne-eqb (i - 1) 0 past j)
 
   pub good-meter : (setting : Setting) → (eqb i 1 || eqb (segmentOf w (i - 1) .origin) 0) ≡ false → settingRefused (segmentOf w (i - 1) .most) setting ≡ false
       → Good w s (l ++ (metered i setting ∷ []))

@@ -2,21 +2,22 @@
 use Prim.Native.Nat.{ℕ, _+_, _-_, _*_, _≤_, _<_}
 use mathlib.Core.Path.{_≡_}
 use mathlib.Core.List.{List}
-use mathlib.Core.Bool.{cond, _&&_}
+use mathlib.Core.Bool.{cond}
 use lib.ListN.{getD, drop, length}
-use lib.Dec.{T, eqb, ltb}
+use lib.Dec.{T, ltb}
 use lib.Ieee.{Float, le}
 use Rattle.laws.specs.Real.{real, _⊘_}
 use Rattle.format.specs.declared.Head.{Head}
 use Rattle.format.specs.declared.Segment.{Segment}
-use Rattle.format.proofs.Accepted.{RowsWithin}
+use Rattle.format.proofs.Accepted.{HeadWithin, CurveWithin, RowsWithin}
 use Rattle.format.specs.Words.{headIn, entryIn, segmentIn}
 use Rattle.metanet.specs.declared.SignSetting.{SignSetting}
 use Rattle.metanet.specs.declared.Ramp.{Ramp}
 use Rattle.metanet.specs.declared.SegmentState.{SegmentState}
+use Rattle.metanet.specs.declared.Neighbours.{Neighbours}
 use Rattle.metanet.specs.Case.{alineaKind}
 use Rattle.metanet.specs.Speed.{area}
-use Rattle.metanet.specs.Step.{newState, desiredSpeed}
+use Rattle.metanet.specs.Step.{newState, desiredSpeed, originBound, mainstream, onRamp}
 use Rattle.metanet.specs.Words.{netOf, stateIn, stateAt}
 use Rattle.metanet.proofs.InWords.{stepWords, stepSpeeds, leaving}
 
@@ -101,16 +102,35 @@ afterIn net rest i n s count =
     (real (getD rest 16 0) ⊘ real (area (segmentIn net (i + 1))))
     (cond (ltb count (s .critical * area s)) (real count ⊘ real (area s)) (real (s .critical)))
 
-unfoldable pub newStateIn : List ℕ → List ℕ → Float → ℕ → ℕ → ℕ → ℕ → ℕ → Float → SegmentState
-newStateIn net rest v d i n t passed before =
-    let s = segmentIn net i in
-    newState (headIn net) s (entryIn net (s .curve) 0) (stateIn rest v) t d (eqb (s .origin) 1 && ltb 0 i)
-    (record {
+-- what is around segment i, which is s, with the state r
+unfoldable pub neighboursIn : List ℕ → List ℕ → Head → ℕ → ℕ → Segment → SegmentState → ℕ → Float → Neighbours
+neighboursIn net rest h i n s r passed before =
+    record {
       passed = passed;
       before = before;
-      after = afterIn net rest i n s (stateIn rest v .count);
-      want = desiredSpeed (entryIn net (s .curve)) s (stateIn rest v);
-    })
+      after = afterIn net rest i n s (r .count);
+      want = desiredSpeed (entryIn net (s .curve)) s r;
+      bound = originBound (mainstream h (entryIn net) (segmentIn net) i) h (entryIn net (s .curve)) s r;
+    }
+
+pub record NeighboursOk (net rest : List ℕ) (h : Head) (i n : ℕ) (s : Segment) (r : SegmentState) : Type 0 where
+  pub long : 2560 ≤ length net
+  pub head : HeadWithin h
+  pub size : n ≤ 40
+  pub more : i < n
+  pub room : 16 * (n - i) ≤ length rest
+  pub next : i + 1 < n → getD rest 16 0 ≤ 1000000000000
+  pub next-area : i + 1 < n → AreaOk (segmentIn net (i + 1))
+  pub segment : SegmentOk h s (entryIn net (s .curve) 0)
+  pub curve : CurveWithin (entryIn net (s .curve))
+  pub state : StateOk s (entryIn net (s .curve) 0) r
+
+unfoldable pub newStateIn : List ℕ → List ℕ → Float → ℕ → ℕ → ℕ → ℕ → ℕ → Float → SegmentState
+newStateIn net rest v d i n t passed before =
+    let h = headIn net in
+    let s = segmentIn net i in
+    let r = stateIn rest v in
+    newState h s (entryIn net (s .curve) 0) r t d (onRamp h (entryIn net) (segmentIn net) i) (neighboursIn net rest h i n s r passed before)
 
 pub record NewStateOk (words : List ℕ) (a : ℕ) (v : Float) (d i n pass : ℕ) : Type 0 where
   pub net : NetworkOk words

@@ -2,7 +2,7 @@
 -- that give the same.
 use Prim.Native.Nat.{ℕ, zero, suc, _+_, _*_, _/_, _≤_, _<_}
 use mathlib.Core.Path.{_≡_, refl, ap, _∙_}
-use mathlib.Core.Bool.{Bool, true, false, _&&_, _||_, not}
+use mathlib.Core.Bool.{Bool, true, false, cond, _&&_, _||_, not}
 use mathlib.Core.List.{List}
 use native.Mathlib.Omega.{arith}
 use lib.Dec.{ltb, leb, eqb, lit<}
@@ -12,17 +12,19 @@ use borrow.Author.Tests.{ltb-true, leb-false}
 use Rattle.laws.specs.First.{row, first}
 use Rattle.laws.specs.Sums.{sumOf}
 use Rattle.laws.proofs.First.{firstOf-ext}
+use Rattle.laws.proofs.Greatest.{greatest-ext}
 use Rattle.laws.proofs.Lists.{table-ext}
 use Rattle.laws.proofs.Sums.{sum-ext}
 use Rattle.format.specs.declared.Head.{Head}
 use Rattle.format.specs.declared.Segment.{Segment}
 use Rattle.format.specs.Network.{Network, networkFrom, entryOf, segmentOf}
+use Rattle.format.proofs.Accepted.{SegmentWithin}
 use Rattle.format.proofs.From.{from-entry, from-segment}
 use Rattle.metanet.specs.declared.SegmentState.{SegmentState}
 use Rattle.metanet.specs.Case.{Case, stateOf}
-use Rattle.metanet.specs.Flow.{exitPart}
+use Rattle.metanet.specs.Flow.{limitingSpeed, speedBound, exitPart}
 use Rattle.metanet.specs.Speed.{area, curveSpeed, underSign}
-use Rattle.metanet.specs.Step.{signOf, desiredSpeed, outflowNow, through, newState, vehiclesIn, upstream, inflow, downstream, freeSpeed, onRamp, stepState, stepStates, exitNow, exitsNow, stepOn, stepCase}
+use Rattle.metanet.specs.Step.{signOf, desiredSpeed, wholeSpeed, originBound, mainstream, outflowNow, through, newState, vehiclesIn, upstream, inflow, downstream, freeSpeed, onRamp, stepState, stepStates, exitNow, exitsNow, stepOn, stepCase}
 use Rattle.metanet.specs.Sound.{stepsMost, stateBad, totalsBad, stateNumber, caseNumber, arrivalNumber, stepNumber}
 
 -- the speed of a curve, from the entries up to 200
@@ -33,17 +35,35 @@ curve-speed-same e f n g same = go (leb 200 (n / g)) refl
     go true q = simp (q, same 200 (lit< tt))
     go false q = let l = leb-false 200 (n / g) q in simp (q, same (n / g) (omega arith), same (n / g + 1) (omega arith))
 
+-- the bound by speed, from the entries up to J
+speed-bound-same : {i : ℕ} (h : Head) (s : Segment) (e f : ℕ → ℕ) (y : ℕ) → SegmentWithin h i s → ((j : ℕ) → j < 201 → e j ≡ f j)
+    → speedBound h e s y ≡ speedBound h f s y
+unfolding speedBound
+speed-bound-same h s e f y w same =
+    λ i. cond (ltb y (same (s .critical) (omega (arith, w .critical-high, w .jam-high)) i))
+    (s .lanes * y * greatest-ext (λ j. leb y (e j)) (λ j. leb y (f j)) (s .jam) (λ j l. ap (leb y) (same j (omega (arith, w .jam-high, l)))) i * h .step / 3600)
+    (s .most)
+
 module _ (h : Head) (e f : ℕ → ℕ → ℕ) (s u : ℕ → Segment)
     (entries : (k j : ℕ) → k < h .curves → j < 201 → e k j ≡ f k j) (segments : (i : ℕ) → i < h .size → s i ≡ u i)
-    (curves : (i : ℕ) → i < h .size → s i .curve < h .curves) where
+    (each : (i : ℕ) → i < h .size → SegmentWithin h i (s i)) where
   free-same : (i : ℕ) → i < h .size → freeSpeed h e s i ≡ freeSpeed h f u i
-  free-same i l = entries (s i .curve) 0 (curves i l) (lit< tt) ∙ ap (λ (x : Segment). f (x .curve) 0) (segments i l)
+  free-same i l = entries (s i .curve) 0 (each i l .curve-high) (lit< tt) ∙ ap (λ (x : Segment). f (x .curve) 0) (segments i l)
 
   want-same : (r : SegmentState) (i : ℕ) → i < h .size → desiredSpeed (e (s i .curve)) (s i) r ≡ desiredSpeed (f (u i .curve)) (u i) r
   unfolding desiredSpeed
   want-same r i l =
-      ap (λ (v : Float). underSign v (signOf (r .sign))) (curve-speed-same (e (s i .curve)) (f (s i .curve)) (r .count) (area (s i)) (λ j m. entries (s i .curve) j (curves i l) m))
+      ap (λ (v : Float). underSign v (signOf (r .sign))) (curve-speed-same (e (s i .curve)) (f (s i .curve)) (r .count) (area (s i)) (λ j m. entries (s i .curve) j (each i l .curve-high) m))
       ∙ ap (λ (x : Segment). underSign (curveSpeed (f (x .curve)) (r .count) (area x)) (signOf (r .sign))) (segments i l)
+
+  bound-same : (m : Bool) (r : SegmentState) (i : ℕ) → i < h .size → originBound m h (e (s i .curve)) (s i) r ≡ originBound m h (f (u i .curve)) (u i) r
+  unfolding originBound
+  bound-same m r i l =
+      let y = limitingSpeed (wholeSpeed r) (r .sign) in
+      simp (
+        ← segments i l,
+        speed-bound-same h (s i) (e (s i .curve)) (f (s i .curve)) y (each i l) (λ j k. entries (s i .curve) j (each i l .curve-high) k),
+      )
 
   module _ (states : List SegmentState) where
     inflow-same : (i : ℕ) → i ≤ h .size → inflow h e s states i ≡ inflow h f u states i
@@ -63,7 +83,13 @@ module _ (h : Head) (e f : ℕ → ℕ → ℕ) (s u : ℕ → Segment)
     unfolding stepState
     state-same t ds i l =
         λ j. newState h (segments i l j) (free-same i l j) (stateOf states i) t (getD ds i 0) (onRamp h f (λ k. segments i l j) i)
-        (record { passed = inflow-same i (omega arith) j; before = upstream states i; after = down-same i l j; want = want-same (stateOf states i) i l j })
+        (record {
+          passed = inflow-same i (omega arith) j;
+          before = upstream states i;
+          after = down-same i l j;
+          want = want-same (stateOf states i) i l j;
+          bound = bound-same (mainstream h f u i) (stateOf states i) i l j;
+        })
 
     exit-same : (i : ℕ) → i < h .size → exitNow h e s states i ≡ exitNow h f u states i
     exit-same i l = ap (λ (x : Segment). exitPart (outflowNow h x (stateOf states i)) (x .exit)) (segments i l)
@@ -106,28 +132,28 @@ module _ (h : Head) (e f : ℕ → ℕ → ℕ) (s u : ℕ → Segment)
 
 -- ---- the network that is given by head, entries and segments
 
-module _ (h : Head) (entry : ℕ → ℕ → ℕ) (segment : ℕ → Segment) (curves : (i : ℕ) → i < h .size → segment i .curve < h .curves) where
+module _ (h : Head) (entry : ℕ → ℕ → ℕ) (segment : ℕ → Segment) (each : (i : ℕ) → i < h .size → SegmentWithin h i (segment i)) where
   abbrev given : Network
   given = networkFrom h entry segment
 
-  curve-there : (i : ℕ) → i < h .size → segmentOf given i .curve < h .curves
-  curve-there i l = rw (from-segment h entry segment i l) (curves i l)
+  each-given : (i : ℕ) → i < h .size → SegmentWithin h i (segmentOf given i)
+  each-given i l = rw (from-segment h entry segment i l) (each i l)
 
   -- a step on it
   pub step-from : (c : Case) (ds : List ℕ) → stepCase given c ds ≡ stepOn h entry segment c ds
   unfolding networkFrom
   step-from c ds =
-      step-same h (entryOf given) entry (segmentOf given) segment (from-entry h entry segment) (from-segment h entry segment) curve-there c ds
+      step-same h (entryOf given) entry (segmentOf given) segment (from-entry h entry segment) (from-segment h entry segment) each-given c ds
 
   -- 12 of a case on it
   pub case-number-from : (c : Case) → caseNumber (given .head) (entryOf given) (segmentOf given) c ≡ caseNumber h entry segment c
   unfolding networkFrom
   case-number-from c =
-      case-number-same h (entryOf given) entry (segmentOf given) segment (from-entry h entry segment) (from-segment h entry segment) curve-there c
+      case-number-same h (entryOf given) entry (segmentOf given) segment (from-entry h entry segment) (from-segment h entry segment) each-given c
 
   -- 13, 15 and 16 of a step on it
   pub step-number-from : (steps : ℕ) (ds : List ℕ)
       → stepNumber (given .head) (entryOf given) (segmentOf given) steps ds ≡ stepNumber h entry segment steps ds
   unfolding networkFrom
   step-number-from steps ds =
-      step-number-same h (entryOf given) entry (segmentOf given) segment (from-entry h entry segment) (from-segment h entry segment) curve-there steps ds
+      step-number-same h (entryOf given) entry (segmentOf given) segment (from-entry h entry segment) (from-segment h entry segment) each-given steps ds

@@ -60,9 +60,9 @@ rate-high s {r} R n t = pick (eqb (r .kind) alineaKind && eqb (t % r .interval) 
     pick false false = R .rate
 
 -- and no more is released than the rate
-pub release-at-most-rate : (s : Segment) (r : SegmentState) (t d : ℕ) → releaseNow s r t d ≤ rampNow s (r .count) (r .ramp) t .rate
+pub release-at-most-rate : (s : Segment) (r : SegmentState) (t d bound : ℕ) → releaseNow s r t d bound ≤ rampNow s (r .count) (r .ramp) t .rate
 unfolding releaseNow rampNow
-release-at-most-rate s r t d = omega arith
+release-at-most-rate s r t d bound = omega arith
 
 -- ---- no more leaves than is there
 
@@ -83,9 +83,9 @@ module _ {h : Head} {s : Segment} {f : ℕ} {r : SegmentState} (S : SegmentOk h 
   pub whole-speed-high : toUnsigned 64 (r .speed) ≤ f
   whole-speed-high = whole-high 1000 f (r .speed) (lit< tt) (S .slow) (omega (arith, S .fast)) (R .low) (R .high)
 
-  pub release-waits : (t d : ℕ) → releaseNow s r t d ≤ r .queue + d
+  pub release-waits : (t d bound : ℕ) → releaseNow s r t d bound ≤ r .queue + d
   unfolding releaseNow
-  release-waits t d = omega arith
+  release-waits t d bound = omega arith
 
   pub outflow-at-most-count : outflowNow h s r ≤ r .count
   unfolding outflowNow

@@ -20,7 +20,7 @@ use Rattle.metanet.specs.Flow.{exitPart}
 use Rattle.metanet.specs.Step.{density, through, outflowNow, newState, inflow, upstream, downstream, stepState, exitNow}
 use Rattle.metanet.specs.Words.{netOf, stateIn, stateAt, statesIn}
 use Rattle.metanet.proofs.InWords.{steppedWords, stepStateIn, newWords, newSpeeds, stepWords, stepSpeeds}
-use Rattle.metanet.proofs.Ready.{Ready, NewStateOk, afterIn, newStateIn}
+use Rattle.metanet.proofs.Ready.{Ready, NewStateOk, afterIn, neighboursIn, newStateIn}
 use Rattle.metanet.proofs.SoundLaws.{state-read}
 use Rattle.metanet.proofs.SegmentLaws.{SegmentIn, segment-ok, through-at-most-count, outflow-at-most-count, exit-le}
 use Rattle.metanet.proofs.StateWords.{length-stepped}
@@ -136,7 +136,7 @@ module _ {ws : List ℕ} {vs : List Float} {ds : List ℕ} {at from n : ℕ} (ok
         go false q = simp (← ok .size, q, state-is i h)
 
     fresh-is : i < n → newStateIn (netOf words) (drop (at + 16 * i) words) (getD speeds (from + i) nan) (getD ds i 0) i n t passed before ≡ stepStateIn ws vs at from n t ds i
-    unfolding newStateIn stepState
+    unfolding newStateIn neighboursIn stepState
     fresh-is h = simp (net-same, rest-same, speed-same, u .before-is, u .passed-is, after-is h, state-is i h)
 
     next-high : i + 1 < n → getD (drop (at + 16 * i) ws) 16 0 ≤ 1000000000000

@@ -1,7 +1,7 @@
 -- One step of a case. Every right side uses values from before the step, save the rates, releases and flows that this step itself
 -- makes. Differences are of natural numbers: in a sound case none would be below 0 (release ≤ w + d, exit part ≤ outflow ≤ N).
 use Prim.Native.Nat.{ℕ, zero, suc, _+_, _-_, _*_, _%_}
-use mathlib.Core.Bool.{Bool, cond, _&&_}
+use mathlib.Core.Bool.{Bool, cond, not, _&&_}
 use mathlib.Core.List.{List}
 use lib.ListN.{getD}
 use lib.Dec.{ltb, eqb}
@@ -20,7 +20,7 @@ use Rattle.metanet.specs.declared.Neighbours.{Neighbours}
 use Rattle.metanet.specs.declared.Sign.{Sign}
 use Rattle.metanet.specs.declared.Sign.the-variants.{Dark, Shown}
 use Rattle.metanet.specs.Case.{Case, openKind, alineaKind, stateOf}
-use Rattle.metanet.specs.Flow.{alineaRate, jamBound, releaseOf, outflowOf, exitPart}
+use Rattle.metanet.specs.Flow.{alineaRate, jamBound, signSpeed, limitingSpeed, speedBound, releaseOf, outflowOf, exitPart}
 use Rattle.metanet.specs.Speed.{area, curveSpeed, underSign, newSpeed}
 
 -- ---- one segment, from its own state
@@ -29,9 +29,9 @@ use Rattle.metanet.specs.Speed.{area, curveSpeed, underSign, newSpeed}
 unfoldable pub density : Segment → SegmentState → Float
 density s r = real (r .count) ⊘ real (area s)
 
--- its speed, carried in binary64, is limit × (1000 + a); the compliance a is kept with 500 added
+-- a sign is dark, or shows its speed, carried in binary64
 unfoldable pub signOf : SignSetting → Sign
-signOf r = cond (eqb (r .limit) 0) Dark (Shown (real (r .limit * (500 + r .compliance))))
+signOf r = cond (eqb (r .limit) 0) Dark (Shown (real (signSpeed r)))
 
 -- the desired speed V on a curve with the entries e, under the state's sign
 unfoldable pub desiredSpeed : (ℕ → ℕ) → Segment → SegmentState → Float
@@ -54,19 +54,31 @@ unfolding rateNow
 rampNow s n r t =
     record { kind = r .kind; rate = rateNow s n r t; target = r .target; gain = r .gain; least = r .least; interval = r .interval }
 
--- 2. release = least of w + d; R; the jam bound
-unfoldable pub releaseNow : Segment → SegmentState → ℕ → ℕ → ℕ
-unfolding rateNow
-releaseNow s r t d = releaseOf (r .queue + d) (rateNow s (r .count) (r .ramp) t) (jamBound (s .most) (s .jam) (s .critical) (area s) (r .count))
+-- s is the whole part of v
+abbrev pub wholeSpeed : SegmentState → ℕ
+wholeSpeed r = toUnsigned 64 (r .speed)
 
--- 3. the outflow; s is the whole part of v
+-- 2. what bounds an origin, on a curve with the entries e: a mainstream one is bounded by speed, any other by the jam density
+unfoldable pub originBound : Bool → Head → (ℕ → ℕ) → Segment → SegmentState → ℕ
+unfolding limitingSpeed speedBound
+originBound mainstream h e s r =
+    cond mainstream
+    (speedBound h e s (limitingSpeed (wholeSpeed r) (r .sign)))
+    (jamBound (s .most) (s .jam) (s .critical) (area s) (r .count))
+
+-- release = least of w + d; R; that bound
+unfoldable pub releaseNow : Segment → SegmentState → ℕ → ℕ → ℕ → ℕ
+unfolding rateNow
+releaseNow s r t d bound = releaseOf (r .queue + d) (rateNow s (r .count) (r .ramp) t) bound
+
+-- 3. the outflow
 unfoldable pub outflowNow : Head → Segment → SegmentState → ℕ
-outflowNow h s r = outflowOf (r .count) (toUnsigned 64 (r .speed)) (h .step) (s .metres)
+outflowNow h s r = outflowOf (r .count) (wholeSpeed r) (h .step) (s .metres)
 
 -- the flows that this step makes
-unfoldable pub flowsNow : Head → Segment → SegmentState → ℕ → ℕ → Flows
+unfoldable pub flowsNow : Head → Segment → SegmentState → ℕ → ℕ → ℕ → Flows
 unfolding releaseNow outflowNow
-flowsNow h s r t d = record { outflow = outflowNow h s r; release = releaseNow s r t d }
+flowsNow h s r t d bound = record { outflow = outflowNow h s r; release = releaseNow s r t d bound }
 
 -- all the rest enters the next segment, or leaves after segment n
 unfoldable pub through : Head → Segment → SegmentState → ℕ
@@ -79,16 +91,16 @@ unfolding density rampNow flowsNow
 newState h s f r t d onRamp o =
     record {
       -- 4. N + release + what the segment before passes on − outflow
-      count = r .count + releaseNow s r t d + o .passed - outflowNow h s r;
+      count = r .count + releaseNow s r t d (o .bound) + o .passed - outflowNow h s r;
       -- w + d − release
-      queue = r .queue + d - releaseNow s r t d;
+      queue = r .queue + d - releaseNow s r t d (o .bound);
       sign = r .sign;
       ramp = rampNow s (r .count) (r .ramp) t;
-      flows = flowsNow h s r t d;
+      flows = flowsNow h s r t d (o .bound);
       speed =
           newSpeed h s f
           (record { count = r .count; queue = r .queue; speed = r .speed; density = density s r; before = o .before; after = o .after })
-          (o .want) onRamp (releaseNow s r t d);
+          (o .want) onRamp (releaseNow s r t d (o .bound));
     }
 
 -- ---- all segments, from their states
@@ -123,9 +135,13 @@ module _ (h : Head) (entry : ℕ → ℕ → ℕ) (segment : ℕ → Segment) wh
       (density (segment (i + 1)) (stateOf states (i + 1)))
       (cond (ltb (stateOf states i .count) (segment i .critical * area (segment i))) (density (segment i) (stateOf states i)) (real (segment i .critical)))
 
-  -- E only at an origin past segment 1
+  -- the origin of segment 1 is mainstream, any other is a ramp
+  abbrev pub mainstream : ℕ → Bool
+  mainstream i = eqb i 0
+
+  -- E only at a ramp
   abbrev pub onRamp : ℕ → Bool
-  onRamp i = eqb (segment i .origin) 1 && ltb 0 i
+  onRamp i = eqb (segment i .origin) 1 && not (mainstream i)
 
   abbrev pub neighbours : List SegmentState → ℕ → Neighbours
   neighbours states i =
@@ -134,11 +150,12 @@ module _ (h : Head) (entry : ℕ → ℕ → ℕ) (segment : ℕ → Segment) wh
         before = upstream states i;
         after = downstream states i;
         want = desiredSpeed (entry (segment i .curve)) (segment i) (stateOf states i);
+        bound = originBound (mainstream i) h (entry (segment i .curve)) (segment i) (stateOf states i);
       }
 
   -- t is the number of steps on the line so far, ds are the arrivals
   unfoldable pub stepState : List SegmentState → ℕ → List ℕ → ℕ → SegmentState
-  unfolding newState inflow upstream downstream desiredSpeed
+  unfolding newState inflow upstream downstream desiredSpeed originBound
   stepState states t ds i = newState h (segment i) (freeSpeed i) (stateOf states i) t (getD ds i 0) (onRamp i) (neighbours states i)
 
   -- the states after the step

@@ -33,12 +33,13 @@ pub struct SegmentState {
 }
 
 // What a step of one segment goes by beside its state: what the segment before passes on and its speed u, the density ρ' of the next
-// one, and the desired speed V.
+// one, the desired speed V, and the most mv that its origin lets in.
 pub struct Neighbours {
     pub passed: u64,
     pub before: f64,
     pub after: f64,
     pub want: f64,
+    pub bound: u64,
 }
 
 // One segment's state before the step: N, w, v, ρ, u and ρ'.

@@ -1,5 +1,5 @@
 -- Step: which row refuses it, and what acceptance says.
-use Prim.Native.Nat.{ℕ, _+_, _*_, _≤_, _<_}
+use Prim.Native.Nat.{ℕ, _+_, _*_, _<_}
 use mathlib.Core.Path.{_≡_, refl, sym, ap, _∙_, subst}
 use mathlib.Core.Bool.{Bool, true, false, not, _||_}
 use mathlib.Core.List.{List}
@@ -45,7 +45,7 @@ module _ (words : List ℕ) (speeds : List Float) (ds : List ℕ) where
   module _ (s : sound words speeds ≡ true) where
     -- 13, 15 and 16, on the network's list of segments as on its words
     same-number : (t : ℕ) → stepNumber (networkAt words .head) (entryOf (networkAt words)) (segmentOf (networkAt words)) t ds ≡ stepNumberIn net t ds
-    same-number t = step-number-from (headIn net) (entryIn net) (segmentIn net) (λ i l. laid words speeds s .net .each i l .curve-high) t ds
+    same-number t = step-number-from (headIn net) (entryIn net) (segmentIn net) (laid words speeds s .net .each) t ds
 
     number-is : refusalAt (item (stepped ds)) (lent words speeds) ≡ first (stepNumberIn net stepsWord ds) (row (leb 1000000 (runCountAt words)) 16 0)
     unfolding refusal itemNumber

@@ -1,20 +1,42 @@
 // Rates, releases and flows of one segment, in mv.
+use format::Segment;
 use metanet::Ramp;
+use metanet::SignSetting;
 ghost use mathlib.Core.Path.{_≡_};
 ghost use Prim.Native.Nat.{_<_, _≤_, min, max};
-ghost use Rattle.metanet.specs.Flow.{jamBound, alineaRate, releaseOf, outflowOf, exitPart};
-ghost use Rattle.metanet.proofs.Ready.{RampOk};
+ghost use Rattle.metanet.specs.Flow.{jamBound, signSpeed, alineaRate, releaseOf, outflowOf, exitPart};
+ghost use Rattle.metanet.specs.Speed.{area};
+ghost use Rattle.metanet.proofs.Ready.{AreaOk, SignOk, RampOk};
 
-// The most that a segment with n mv lets in from its origin: 0 from the jam density on.
+// G, in lane-metres.
+pub(crate) fn area_of(s: Segment) -> u64
+    requires { ⌜ AreaOk s ⌝ }
+    ensures { λ r. ⌜ (r ≡ area s) × (0 < r) × (r ≤ 16000) ⌝ }
+{
+    s.metres * s.lanes
+}
+
+// The most that a segment with n mv lets in from its origin: 0 from the jam density on, and at once where there is no origin.
 pub(crate) fn jam_bound(most: u64, jam: u64, critical: u64, g: u64, n: u64) -> u64
     requires { ⌜ (most ≤ 300000) × (jam ≤ 200) × (critical < jam) × (0 < g) × (g ≤ 16000) ⌝ }
     ensures { λ r. ⌜ r ≡ jamBound most jam critical g n ⌝ }
 {
+    if most == 0 {
+        return 0;
+    }
     let full = jam * g;
     if full <= n {
         return 0;
     }
     most * (full - n) / ((jam - critical) * g)
+}
+
+// The speed that a shown sign gives, m/h.
+pub(crate) fn sign_speed(r: SignSetting) -> u64
+    requires { ⌜ SignOk r ⌝ }
+    ensures { λ x. ⌜ (x ≡ signSpeed r) × (x ≤ 300000) ⌝ }
+{
+    r.limit * (500 + r.compliance)
 }
 
 // x kept in least..most.

@@ -5,9 +5,18 @@ use metanet::Old;
 use metanet::Sign;
 ghost use mathlib.Core.Path.{_≡_};
 ghost use Prim.Native.Nat.{_<_, _≤_};
+ghost use Rattle.laws.specs.Real.{real, _⊘_};
 ghost use Rattle.format.specs.Words.{entryIn};
 ghost use Rattle.format.proofs.Accepted.{HeadWithin, CurveWithin};
 ghost use Rattle.metanet.specs.Speed.{relaxation, convection, anticipation, merging, keep, newSpeed, curveSpeed, underSign};
+
+// ρ: n mv on an area g.
+pub(crate) fn density_of(g: u64, count: u64) -> f64
+    requires { ⌜ (g ≤ 16000) × (count ≤ 1000000000000) ⌝ }
+    ensures { λ r. ⌜ r ≡ real count ⊘ real g ⌝ }
+{
+    case_words::whole(count) / case_words::whole(g)
+}
 
 // A: relaxation to the desired speed, m/h.
 fn relax(h: Head, want: f64, v: f64) -> f64

@@ -1,8 +1,8 @@
 //! Counts, queues, speeds and signs of one segment.
 
 use crate::random::Random;
-use oracle::case::Sign;
-use oracle::file::Segment;
+use oracle::case::{SegmentState, Sign};
+use oracle::file::{Curve, Segment};
 
 /// N in mv: empty, at, just below or just above a density that matters, or
 /// any, past 200 too.
@@ -59,6 +59,60 @@ pub fn sign(random: &mut Random) -> Sign {
             compliance: random.edge(0, 1000) as i64 - 500,
         },
     }
+}
+
+/// Speed or sign by an entry of the curve: s is the entry or a number beside
+/// it, or a sign slower than s is the entry, where there is one.
+pub fn put_at_entry(
+    random: &mut Random,
+    curve: &Curve,
+    segment: &Segment,
+    state: &mut SegmentState,
+) {
+    let entry = u64::from(curve[telling_density(random, curve, segment)]);
+    let free_speed = f64::from(curve[0]);
+    if random.once_in(2) {
+        let whole = match random.once_in(2) {
+            true => entry,
+            false => beside(random, entry),
+        };
+        let speed = whole as f64 + fraction(random);
+        state.speed = speed.clamp(1_000.0, free_speed);
+        state.sign = Sign::Dark;
+    } else if let Some(sign) = sign_at(random, entry) {
+        if state.whole_speed() <= entry {
+            state.speed = free_speed;
+        }
+        state.sign = sign;
+    }
+}
+
+/// C, the next one, one on a flat stretch past C, up to J, or any.
+fn telling_density(random: &mut Random, curve: &Curve, segment: &Segment) -> usize {
+    let (critical, jam) = (usize::from(segment.critical), usize::from(segment.jam));
+    let flat = |&at: &usize| {
+        let entry = curve[at];
+        (1_000..curve[critical]).contains(&entry) && entry == curve[at - 1]
+    };
+    let mut flats = (critical + 1..=jam).filter(flat);
+    let any_flat = random.below(flats.clone().count().max(1) as u64) as usize;
+    match (random.below(5), flats.nth(any_flat)) {
+        (0, _) => critical,
+        (1, _) => critical + 1,
+        (2, Some(flat)) => flat,
+        (3, _) => random.between(critical as u64, jam as u64) as usize,
+        _ => random.below(curve.len() as u64) as usize,
+    }
+}
+
+/// A sign of exactly that speed in m/h, where there is one.
+fn sign_at(random: &mut Random, speed: u64) -> Option<Sign> {
+    let shows =
+        |limit: &u64| speed.is_multiple_of(*limit) && (500..=1500).contains(&(speed / limit));
+    let limits: Vec<u64> = (20..=200).filter(shows).collect();
+    let limit = *limits.get(random.below(limits.len().max(1) as u64) as usize)?;
+    let compliance = (speed / limit) as i64 - 1000;
+    Some(Sign::Shown { limit, compliance })
 }
 
 /// A binary64 number in 0..1, all its bits random.

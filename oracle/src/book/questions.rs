@@ -44,7 +44,7 @@ fn case_figures(case: &Case) -> [u64; 6] {
 fn segment_figures(state: &SegmentState) -> [u64; 7] {
     [
         state.count,
-        state.speed as u64,
+        state.whole_speed(),
         state.speed.to_bits(),
         state.queue,
         state.last_outflow,

@@ -2,7 +2,7 @@
 
 use super::{Lengths, Start, SLOTS};
 use crate::case::{Alinea, Setting};
-use crate::network::{Network, Segment};
+use crate::network::{Network, Origin, Segment};
 use crate::refusal::{
     ARRAYS, ARRIVAL, EMPTY, FILLED, LIST_LENGTH, NO_MORE_STEPS, NO_RAMP, NO_SEGMENT, NO_SLOT,
     SETTING, SIGN, START_FIGURE,
@@ -62,7 +62,7 @@ pub fn judge_sign(limit: u64, compliance: i64) -> Result<(), u8> {
 /// Rows 19 and 20.
 pub fn judge_meter(network: &Network, place: usize, setting: Setting) -> Result<(), u8> {
     let segment = &network.segments[place];
-    refuse_if(place == 0 || !segment.origin, NO_RAMP)?;
+    refuse_if(network.origin(place) != Origin::Ramp, NO_RAMP)?;
     let most = u64::from(segment.most_released);
     let fits = match setting {
         Setting::Open => true,

@@ -1,5 +1,6 @@
 //! Whole figures of a step: rate, release, outflow and exit part, in mv.
 
+use super::origin;
 use crate::case::{Alinea, SegmentState, Setting};
 use crate::network::{Network, Segment};
 
@@ -16,21 +17,23 @@ pub struct Flows {
 }
 
 impl Flows {
-    /// The flows of a segment whose state is from before the step; `steps` is
-    /// the number of steps on the line so far.
+    /// The flows of the segment at that place (from 0), whose state is from
+    /// before the step; `steps` is the number of steps on the line so far.
     pub fn of(
         network: &Network,
-        segment: &Segment,
+        place: usize,
         state: &SegmentState,
         arrival: u64,
         steps: u64,
     ) -> Flows {
+        let segment = &network.segments[place];
         let rate = new_rate(segment, state, steps);
         let waiting = state.queue + arrival;
+        let road = origin::bound(network, place, state);
         let outflow = outflow(network, segment, state);
         Flows {
             rate,
-            release: waiting.min(rate).min(jam_bound(segment, state.count)),
+            release: waiting.min(rate).min(road.unwrap_or(u64::MAX)),
             outflow,
             exit_part: outflow * u64::from(segment.exit_share) / 1000,
         }
@@ -56,22 +59,9 @@ pub fn rate_change(segment: &Segment, alinea: &Alinea, count: u64) -> i64 {
     alinea.gain as i64 * missing / lane_metres
 }
 
-/// What the room in the segment lets in: the whole part of
-/// Q × (J × G − N) ÷ ((J − C) × G), or 0 from N = J × G on.
-pub fn jam_bound(segment: &Segment, count: u64) -> u64 {
-    let lane_metres = segment.lane_metres();
-    let full = u64::from(segment.jam) * lane_metres;
-    if count >= full {
-        return 0;
-    }
-    let between = u64::from(segment.jam - segment.critical) * lane_metres;
-    u64::from(segment.most_released) * (full - count) / between
-}
-
 /// Whole part of N × s × T ÷ (3600 × L), s the whole part of v. The bound on
 /// F × T keeps it at most N.
 fn outflow(network: &Network, segment: &Segment, state: &SegmentState) -> u64 {
-    let whole_speed = state.speed as u64;
-    let metres = whole_speed * u64::from(network.step);
+    let metres = state.whole_speed() * u64::from(network.step);
     state.count * metres / (3600 * u64::from(segment.length))
 }

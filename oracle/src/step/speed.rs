@@ -32,7 +32,7 @@ pub fn new_speed(
     merging: Option<u64>,
 ) -> f64 {
     let v = before.speed;
-    let curve = &network.curves[usize::from(segment.curve)];
+    let curve = network.curve(segment);
     let desired = desired_speed(curve, segment.lane_metres(), before.count, sign);
     let step = u64::from(network.step);
     let relaxation = u64::from(network.relaxation);
@@ -56,9 +56,9 @@ pub fn new_speed(
 /// V: the speed that drivers aim at, by the curve and by the sign, in m/h.
 pub fn desired_speed(curve: &Curve, lane_metres: u64, count: u64, sign: Sign) -> f64 {
     let by_curve = curve_speed(curve, lane_metres, count);
-    match sign {
-        Sign::Dark => by_curve,
-        Sign::Shown { limit, compliance } => by_curve.min(sign_speed(limit, compliance)),
+    match sign.speed() {
+        None => by_curve,
+        Some(shown) => by_curve.min(whole(shown)),
     }
 }
 
@@ -71,11 +71,6 @@ pub fn curve_speed(curve: &Curve, lane_metres: u64, count: u64) -> f64 {
     let entry = curve[place as usize];
     let fall = u64::from(entry - curve[place as usize + 1]);
     f64::from(entry) - whole(fall * (count % lane_metres)) / whole(lane_metres)
-}
-
-/// limit × (1000 + a), in m/h.
-pub fn sign_speed(limit: u64, compliance: i64) -> f64 {
-    (limit as i64 * (1000 + compliance)) as f64
 }
 
 /// ρ = N ÷ G, in veh/km/lane.

@@ -5,6 +5,7 @@ mod file;
 mod laid;
 mod lent;
 mod lines;
+mod mainstream;
 mod networks;
 mod refusals;
 mod sound;

@@ -3,7 +3,7 @@
 
 use crate::networks;
 use oracle::case::{Alinea, Case, SegmentState, Setting, Sign};
-use oracle::step::{flows, speed, step};
+use oracle::step::{flows, origin, speed, step};
 
 /// Arrivals of five steps, in mv.
 const ARRIVALS: [[u32; 3]; 5] = [
@@ -42,9 +42,9 @@ fn both_steps_of_the_tallies() {
 #[test]
 fn jam_bound_by_room() {
     let segment = &networks::tallies().segments[0];
-    assert_eq!(flows::jam_bound(segment, 20_000), 6_400);
-    assert_eq!(flows::jam_bound(segment, 180_000), 0);
-    assert_eq!(flows::jam_bound(segment, 180_001), 0);
+    assert_eq!(origin::jam_bound(segment, 20_000), 6_400);
+    assert_eq!(origin::jam_bound(segment, 180_000), 0);
+    assert_eq!(origin::jam_bound(segment, 180_001), 0);
 }
 
 #[test]
@@ -74,12 +74,12 @@ fn curve_between_entries() {
 
 #[test]
 fn sign_and_curve_whichever_is_less() {
-    assert_eq!(speed::sign_speed(70, -100), 63_000.0);
     let curve = [80_000; 201];
     let shown = |limit| Sign::Shown {
         limit,
         compliance: -100,
     };
+    assert_eq!(shown(70).speed(), Some(63_000));
     let desired = |sign| speed::desired_speed(&curve, 1_000, 0, sign);
     assert_eq!(desired(Sign::Dark), 80_000.0);
     assert_eq!(desired(shown(70)), 63_000.0);
@@ -148,18 +148,18 @@ fn upstream_pull() -> f64 {
     ((10.0 / 3_596_400.0) * 102_000.0) * 12_000.0
 }
 
-/// Through traffic is not bounded by room: past jam density nothing is let
-/// in, and past 200 the curve's last entry holds.
+/// Neither through traffic nor the mainstream is bounded by room: past jam
+/// density its speed still lets 2 × 1,000 × 180 × 10 ÷ 3600 mv in.
 #[test]
 fn a_segment_may_be_fuller_than_a_jam() {
     let network = networks::tallies();
     let mut case = Case::start(&network, &[0], &[1_000], &[7_000]);
     case.segments[0].count = 1_000_000;
     step(&network, &mut case, &[1]);
-    assert_eq!(case.segments[0].last_release, 0);
-    assert_eq!(case.segments[0].queue, 7_001);
+    assert_eq!(case.segments[0].last_release, 1_000);
+    assert_eq!(case.segments[0].queue, 6_001);
     assert_eq!(case.segments[0].last_outflow, 5_555);
-    assert_eq!(case.segments[0].count, 994_445);
+    assert_eq!(case.segments[0].count, 995_445);
 }
 
 /// The rate moves in the steps whose number on the line z divides, 0 among

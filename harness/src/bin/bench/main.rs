@@ -14,7 +14,8 @@
 //!   typed data, with nothing read, judged or stored.
 //! - start: Start on a file, over a study with empty slots. The lists are
 //!   numbers of 32 bits for the engine and of 64 for the oracle.
-//! - step: Step.
+//! - step: Step. Slow origin: segment 1 shows 40 km/h, so that its origin is
+//!   bounded by speed in every step.
 //! - report, segment report: of the live case, or of slot 6 where slots are
 //!   filled; the segment is the last.
 //! - hold recall drop: three calls, each judged, on slot 6. Where slots are

@@ -46,7 +46,16 @@ pub fn rows() -> Vec<Row> {
             }
         }
     }
+    rows.extend(ROADS.map(slow_origin));
     rows
+}
+
+/// Step, with the origin of segment 1 bounded by the speed of a sign.
+fn slow_origin((n, curves): (usize, usize)) -> Row {
+    let network = busy::road(n, curves);
+    let works = [engine_side::step, oracle_side::step];
+    let lent = works.map(|work| Lent::new(&network, 0, work).with_slow_origin());
+    sides("step, slow origin", lent, 100)
 }
 
 /// The engine's Step, with empty slots.

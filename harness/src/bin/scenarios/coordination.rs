@@ -11,6 +11,8 @@ use oracle::case::Alinea;
 const RAMP: u64 = 5;
 const SIGNED: [u64; 2] = [3, 4];
 const QUARTER: f64 = 900.0;
+/// 50 min, when segment 1 is slow, in seconds.
+const SLOW: u64 = 3000;
 /// Demands in veh/h.
 const MAIN: f64 = 3500.0;
 const MAIN_LOW: f64 = 1000.0;
@@ -51,23 +53,23 @@ fn controlled(case: &str, published: &str, open: &Outcome, outcome: &Outcome) {
 }
 
 fn uncontrolled(case: &str, open: &Outcome) {
-    row(
-        "000",
-        case,
-        "time spent, veh·h",
-        "1460.0",
-        &format!("{:.1}", open.time_spent),
-    );
+    let put = |figure: &str, published: &str, ours: String| {
+        row("000", case, figure, published, &ours);
+    };
+    let time = format!("{:.1}", open.time_spent);
+    put("time spent, veh·h", "1460.0", time);
     let queue = format!("{:.0}", open.longest_queue(1));
-    row("000", case, "longest queue at O1, veh", "about 150", &queue);
-    let density = format!("{:.1}", open.density(RAMP as usize, 7200));
-    row(
-        "000",
-        case,
-        "density of the ramp's segment at 2 h, veh/km/lane",
-        "about 50",
-        &density,
-    );
+    put("longest queue at O1, veh", "about 150", queue);
+    let queue = format!("{:.0}", open.queue(1, SLOW));
+    put("queue at O1 at 50 min, veh", "only drawn", queue);
+    let density = format!("{:.1}", open.density(1, SLOW));
+    let figure = "density of segment 1 at 50 min, veh/km/lane";
+    put(figure, "only drawn", density);
+    for (segment, name) in [(1, "segment 1"), (RAMP as usize, "the ramp's segment")] {
+        let figure = format!("density of {name} at 2 h, veh/km/lane");
+        let density = format!("{:.1}", open.density(segment, 7200));
+        put(&figure, "about 50", density);
+    }
 }
 
 /// ALINEA with a queue of at most 100 vehicles; while the queue is full the

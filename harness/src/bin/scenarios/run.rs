@@ -88,6 +88,11 @@ impl Outcome {
         self.dense(segment, &self.seen[(time / STEP) as usize])
     }
 
+    /// The queue in vehicles.
+    pub fn queue(&self, segment: usize, time: u64) -> f64 {
+        self.seen[(time / STEP) as usize][segment - 1].queue as f64 / 1000.0
+    }
+
     /// The longest queue in vehicles.
     pub fn longest_queue(&self, segment: usize) -> f64 {
         let queues = self.seen.iter().map(|seen| seen[segment - 1].queue);

@@ -68,6 +68,11 @@ fn uncontrolled(open: &Outcome) {
         "18",
         format!("{:.1}", open.longest_queue(o2)),
     );
+    put(
+        "longest queue at the main origin, veh",
+        "not given",
+        format!("{:.1}", open.longest_queue(1)),
+    );
     let at = minutes(open.first_above(o2, CONGESTED));
     put("congestion at O2's merge from, min", "after 60", at);
     let at = minutes(open.first_above(o1, CONGESTED));

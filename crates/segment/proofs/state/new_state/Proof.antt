@@ -10,7 +10,7 @@ use Rattle.segment.proofs.state.new_state.Tie as tie
 
 -- from the release back to the ramp, and to the start
 abbrev ramp : tie.After-release-of → tie.After-new-ramp
-ramp c = c .before .before .before
+ramp c = c .before .before
 
 abbrev start : tie.After-release-of → tie.Start
 start c = ramp c .before .before .before .before
@@ -28,11 +28,11 @@ new-speed-requires c κs =
     let p = start release .pre in
     (p .0, (p .1 .0 .metres-high, p .1 .0 .lanes-high, p .1 .0 .fast, released release))
 
-add-t20 : tie.Need-add-t20
-add-t20 c = let r = c .before .before .before .before in omega (arith, released r, start r .pre)
+add-t19 : tie.Need-add-t19
+add-t19 c = let r = c .before .before .before .before in omega (arith, released r, start r .pre)
 
-add-t21 : tie.Need-add-t21
-add-t21 c = let r = c .before .before .before .before .before in omega (arith, released r, start r .pre)
+add-t20 : tie.Need-add-t20
+add-t20 c = let r = c .before .before .before .before .before in omega (arith, released r, start r .pre)
 
 returns : tie.Need-returns
 unfolding newState
@@ -44,7 +44,6 @@ returns c =
       speed .before .density-of .ensures,
       speed .before .before .outflow-of .ensures .0,
       release .release-of .ensures,
-      release .before .jam-bound .ensures,
       ramp release .new-ramp .ensures,
       ramp release .before .before .before .area-of .ensures .0,
     )
@@ -54,5 +53,4 @@ new-state-spec =
     tie.close
     (tie.spec
     (λ c κs. search needs) (λ c κs. search needs) (λ c. search needs) (λ c κs. search needs) (λ c κs. search needs)
-    (λ c κs. search needs) (λ c κs. search needs) new-speed-requires add-t20 add-t21 (λ c. search needs)
-    (λ c. search needs) returns)
+    (λ c κs. search needs) new-speed-requires add-t19 add-t20 (λ c. search needs) (λ c. search needs) returns)

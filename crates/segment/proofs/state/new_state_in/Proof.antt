@@ -1,16 +1,18 @@
 -- Each part is read from the network's words or from the state's, and the new state is made of them.
-use Prim.Native.Nat.{_<_, _+_}
-use mathlib.Core.Path.{sym, subst}
+use Prim.Native.Nat.{_<_, _≤_, _+_}
+use mathlib.Core.Path.{sym, ap, subst}
 use native.Mathlib.Omega.{arith}
+use native.Mathlib.Nat.{le-trans, le-of-eq}
 use lib.ListN.{length-drop}
 use lib.Seq.{length-take-le}
 use borrow.Author.Needs.{needs}
 use Rattle.laws.proofs.Lists.{rest-is}
 use Rattle.format.specs.declared.Head.{Head}
 use Rattle.format.specs.Words.{entryIn, segmentIn}
-use Rattle.format.proofs.Accepted.{HeadWithin}
+use Rattle.format.proofs.Accepted.{HeadWithin, CurveWithin}
+use Rattle.metanet.specs.declared.Neighbours.{Neighbours}
 use Rattle.metanet.specs.Words.{netOf}
-use Rattle.metanet.proofs.Ready.{SegmentOk, newStateIn}
+use Rattle.metanet.proofs.Ready.{SegmentOk, neighboursIn, newStateIn}
 use Rattle.metanet.proofs.SegmentLaws.{SegmentIn, segment-ok, area-ok}
 use Rattle.segment.proofs.state.new_state_in.Statement.{statement}
 use Rattle.segment.proofs.state.new_state_in.Tie as tie
@@ -33,37 +35,9 @@ judged s k l = segment-ok (s .pre .0 .net) k (omega (arith, s .pre .0 .size))
 own : (s : tie.Start) → SegmentIn (netOf (s .args .words .now)) (s .args .i)
 own s = judged s (s .args .i) (s .pre .0 .more)
 
--- ---- the needs
-area-of-requires : tie.Need-area-of-requires
-area-of-requires c κs = rw (segment c .kept-segment .ensures) (area-ok (own (start (segment c))))
-
-after-of-requires : tie.Need-after-of-requires
-after-of-requires c κs =
-    let row = c .before in
-    let s = start (segment row) in
-    let q = s .pre .0 in (
-      (omega (arith, q .size, q .net .head .size-high), q .more, simp (rest-is, length-drop) (omega (arith, q .room))),
-      (
-        (
-          c .area-of .ensures .0,
-          c .area-of .ensures .2,
-          rw (segment row .kept-segment .ensures) (omega (arith, own s .critical-high, own s .jam-high)),
-          simp (row .state-of .ensures, rest-is) (q .state .count),
-        ),
-        (simp rest-is (q .next), λ l. area-ok (judged s (s .args .i + 1) l)),
-      ),
-    )
-
-want-of-requires : tie.Need-want-of-requires
-want-of-requires c κs =
-    let area = c .before in
-    let row = area .before in
-    let s = start (segment row) in
-    let q = s .pre .0 in
-    let curve = q .net .curve _ (q .net .each (s .args .i) (omega (arith, q .size, q .more)) .curve-high) in (
-      (area .area-of .ensures .0, area .area-of .ensures .1, area .area-of .ensures .2, rw (segment row .kept-segment .ensures) (own s .curve-high)),
-      simp (entry row .kept-entry .ensures, segment row .kept-segment .ensures, row .state-of .ensures, rest-is) (curve, q .state),
-    )
+-- its curve
+curve : (s : tie.Start) → let net = netOf (s .args .words .now) in CurveWithin (entryIn net (segmentIn net (s .args .i) .curve))
+curve s = let q = s .pre .0 in q .net .curve _ (q .net .each (s .args .i) (omega (arith, q .size, q .more)) .curve-high)
 
 -- what the head that is handed on says
 head-within : (s : tie.Start) → HeadWithin (s .args .h)
@@ -74,25 +48,47 @@ own-within s =
     let net = netOf (s .args .words .now) in
     subst (λ (h : Head). SegmentOk h (segmentIn net (s .args .i)) (entryIn net (segmentIn net (s .args .i) .curve) 0)) (sym (s .pre .1)) (own s)
 
+-- ---- the needs
+neighbours-requires : tie.Need-neighbours-requires
+neighbours-requires c κs =
+    let s = start (segment c) in
+    let q = s .pre .0 in
+    simp (segment c .kept-segment .ensures, c .state-of .ensures, rest-is)
+    (record {
+      long = le-of-eq (sym (length-take-le 2560 (s .args .words .now) (q .long)));
+      head = head-within s;
+      size = omega (arith, q .size, q .net .head .size-high);
+      more = q .more;
+      room = simp length-drop (omega (arith, q .room));
+      next = q .next;
+      next-area = λ l. area-ok (judged s (s .args .i + 1) l);
+      segment = own-within s;
+      curve = curve s;
+      state = q .state;
+    })
+
+passed-on : (c : tie.After-neighbours) → c .neighbours .result .passed ≤ 1000000000000
+unfolding neighboursIn
+passed-on c =
+    le-trans (le-of-eq (ap (λ (o : Neighbours). o .passed) (c .neighbours .ensures))) (start (segment (c .before)) .pre .0 .passed)
+
 new-state-requires : tie.Need-new-state-requires
 new-state-requires c κs =
-    let row = c .before .before .before .before in
+    let row = c .before .before in
     let s = start (segment row) in
     let q = s .pre .0 in
     simp (entry row .kept-entry .ensures, segment row .kept-segment .ensures, row .state-of .ensures, rest-is)
-    (head-within s, (own-within s, (q .state, (q .arrival, q .passed))))
+    (head-within s, (own-within s, (q .state, (q .arrival, passed-on (c .before)))))
 
 returns : tie.Need-returns
 unfolding newStateIn
 returns c =
     let onRamp = c .before in
-    let after = onRamp .before .before in
-    let row = after .before .before in
+    let row = onRamp .before .before in
     simp (
       c .new-state .ensures,
       onRamp .is-on-ramp .ensures,
-      onRamp .before .want-of .ensures,
-      after .after-of .ensures,
+      onRamp .before .neighbours .ensures,
       ← start (segment row) .pre .1,
       entry row .kept-entry .ensures,
       segment row .kept-segment .ensures,
@@ -109,4 +105,4 @@ new-state-in-spec =
     (λ c. search needs) (λ c κs. search needs)
     (λ c. rw (c .before .kept-segment .ensures) (omega (arith, own (start (c .before)) .curve-high)))
     (λ c κs. search needs) (λ c κs. search needs)
-    area-of-requires after-of-requires want-of-requires (λ c κs. search needs) new-state-requires returns)
+    neighbours-requires (λ c κs. search needs) new-state-requires returns)

@@ -5,7 +5,7 @@ use crate::table::Side;
 use harness::calls::RUN_FIGURES;
 use harness::random::Random;
 use harness::stored_case::{state_word, total_word};
-use harness::stored_case::{ARRIVALS, COUNT, EXITS, STEPS, TIME};
+use harness::stored_case::{ARRIVALS, COMPLIANCE, COUNT, EXITS, LIMIT, STEPS, TIME};
 use harness::study::{case_word, speeds_for, words_for, Study, RUNS};
 use harness::surveys::row_count;
 use oracle::book::SLOTS;
@@ -59,6 +59,15 @@ impl Lent {
             work,
             turn: 0,
         }
+    }
+
+    /// The same with a sign at segment 1 whose speed is below the curve's
+    /// entry at the critical density.
+    pub fn with_slow_origin(mut self) -> Lent {
+        let n = self.arguments.network.segments.len();
+        let live = &mut self.words[case_word(n, 0)..];
+        (live[state_word(0, LIMIT)], live[state_word(0, COMPLIANCE)]) = (40, 550);
+        self
     }
 
     /// The same with a survey file of so many rows.

@@ -5,7 +5,7 @@ use crate::control::{Ramp, Rule, GAIN};
 use crate::live::Live;
 use crate::road::{mv_a_step, network, plain, put_origin, Diagram};
 use crate::run::{Outcome, SetUp};
-use crate::table::{row, spent};
+use crate::table::{row, spent, BOUNDED};
 use oracle::case::Alinea;
 
 const RAMP: u64 = 5;
@@ -60,6 +60,7 @@ fn uncontrolled(case: &str, open: &Outcome) {
     put("time spent, veh·h", "1460.0", time);
     let queue = format!("{:.0}", open.longest_queue(1));
     put("longest queue at O1, veh", "about 150", queue);
+    put(BOUNDED, "only drawn", open.bounded_by_speed());
     let queue = format!("{:.0}", open.queue(1, SLOW));
     put("queue at O1 at 50 min, veh", "only drawn", queue);
     let density = format!("{:.1}", open.density(1, SLOW));

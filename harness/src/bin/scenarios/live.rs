@@ -12,11 +12,14 @@ pub struct Live {
     network: Network,
 }
 
-/// Of one segment: mv, queue in mv, outflow of the last step in mv.
+/// Of one segment, in mv: what is in it and in its queue, outflow and release
+/// of the last step, and the rate R.
 pub struct Seen {
     pub count: u64,
     pub queue: u64,
     pub outflow: u64,
+    pub release: u64,
+    pub rate: u64,
 }
 
 impl Live {
@@ -65,6 +68,8 @@ impl Live {
             count: figures[0],
             queue: figures[3],
             outflow: figures[4],
+            release: figures[5],
+            rate: figures[6],
         }
     }
 

@@ -99,6 +99,23 @@ impl Outcome {
         queues.max().unwrap_or(0) as f64 / 1000.0
     }
 
+    /// When speed is the least bound of the main origin, in minutes: some wait
+    /// there still, and fewer than R were released.
+    pub fn bounded_by_speed(&self) -> String {
+        let bounded = |step: &usize| {
+            let main = &self.seen[*step][0];
+            main.queue > 0 && main.release < main.rate
+        };
+        let steps: Vec<usize> = (1..self.seen.len()).filter(bounded).collect();
+        let (Some(first), Some(last)) = (steps.first(), steps.last()) else {
+            return "never".into();
+        };
+        let minutes = |step: usize| (step as u64 * STEP) as f64 / 60.0;
+        let (from, to) = (minutes(first - 1), minutes(*last));
+        let all = last - first + 1;
+        format!("{from:.1} to {to:.1}, {} of {all} steps", steps.len())
+    }
+
     /// The outflow of the step that ends at a time, in veh/h.
     pub fn outflow(&self, segment: usize, time: u64) -> f64 {
         hourly(self.seen[(time / STEP) as usize][segment - 1].outflow)

@@ -5,7 +5,7 @@
 use crate::live::Live;
 use crate::road::{network, plain, put_origin, Diagram};
 use crate::run::{Outcome, SetUp};
-use crate::table::{row, spent};
+use crate::table::{row, spent, BOUNDED};
 
 const LAST: usize = 12;
 const TIME: &str = "time spent, veh·h";
@@ -48,6 +48,7 @@ fn uncontrolled(wave: &Outcome) {
     };
     put(TIME, "1835.3", format!("{:.1}", wave.time_spent));
     put("speed of the wave, km/h", "about 22", wave_speed(wave));
+    put(BOUNDED, "not given", wave.bounded_by_speed());
     for segment in [11, 8, 1] {
         let figure = format!("highest density of segment {segment}, veh/km/lane");
         let highest = wave.density(segment, wave.peak_time(segment));

@@ -1,5 +1,8 @@
 //! The table, in Markdown.
 
+/// The figure that says when speed bounds the main origin.
+pub const BOUNDED: &str = "main origin bounded by speed, min";
+
 pub fn head() {
     println!("| Source | Case | Figure | Published | Ours |");
     println!("|---|---|---|---|---|");

@@ -5,7 +5,7 @@ use crate::control::{Ramp, Rule, GAIN};
 use crate::live::Live;
 use crate::road::{mv_a_step, network, plain, put_origin, Diagram};
 use crate::run::{Outcome, SetUp};
-use crate::table::{minutes, row, spent};
+use crate::table::{minutes, row, spent, BOUNDED};
 use oracle::case::Alinea;
 
 /// Segments of the on-ramps, and the one at whose end the off-ramp is.
@@ -73,6 +73,7 @@ fn uncontrolled(open: &Outcome) {
         "not given",
         format!("{:.1}", open.longest_queue(1)),
     );
+    put(BOUNDED, "not given", open.bounded_by_speed());
     let at = minutes(open.first_above(o2, CONGESTED));
     put("congestion at O2's merge from, min", "after 60", at);
     let at = minutes(open.first_above(o1, CONGESTED));

@@ -22,7 +22,12 @@
 extern "C" {
 #endif
 
-/* A network file: 1 to 8, or 0 where it is accepted. */
+/* ---- A network file
+ *
+ * Version 1 is a chain of segments. In version 2 each record also names the first and the second segment that follow its
+ * own, 0 for none, and the share to the first: freeways that part and meet. All functions take both. */
+
+/* The number that refuses a file, 1 to 8, 27 or 28, or 0 where it is accepted. */
 uint64_t network_check(const uint8_t *file, size_t file_len);
 
 /* Curve number curve, from 0: the file's number, then 10 where there is no such curve, or 0. */
@@ -33,8 +38,8 @@ uint64_t network_curve_number(const uint8_t *file, size_t file_len, uint64_t cur
 uint64_t network_curve(const uint8_t *file, size_t file_len, uint64_t curve, uint64_t *place, size_t place_len);
 
 /* Where a file is wrong: place[0] becomes its number, or 0 where it is accepted; place[1] the curve (6) or the record
- * (7, 8), place[2] the entry (6) or the broken rule of the row (4, 7; docs/REFUSALS.md lists them), both from 0;
- * place[3] the byte offset; later words stay. The answer is 24 where place_len is below 4, or 0. */
+ * (7, 8, 27, 28), place[2] the entry (6) or the broken rule of the row (4, 7, 27; docs/REFUSALS.md lists them), both
+ * from 0; place[3] the byte offset; later words stay. The answer is 24 where place_len is below 4, or 0. */
 uint64_t network_place(const uint8_t *file, size_t file_len, uint64_t *place, size_t place_len);
 
 /* ---- A survey file: a day of arrivals
@@ -66,7 +71,7 @@ uint64_t survey_write(uint64_t n, const uint32_t *arrivals, size_t arrivals_len,
 uint64_t study_sound(const uint64_t *words, size_t words_len, const double *speeds, size_t speeds_len);
 
 /* Begins a study on a network file: for each segment initial mv, speed in whole m/h and queue in mv. All ramps are
- * open, signs dark, slots empty. The file's number 1 to 8; 11 arrays too short; 13 a list's length; 14 a value out of
+ * open, signs dark, slots empty. The number of network_check; 11 arrays too short; 13 a list's length; 14 a value out of
  * range. */
 uint64_t study_start(uint64_t *words, size_t words_len, double *speeds, size_t speeds_len, const uint8_t *file,
                      size_t file_len, const uint32_t *mvs, size_t mvs_len, const uint32_t *initial_speeds,
@@ -79,7 +84,7 @@ uint64_t study_sign(uint64_t *words, size_t words_len, const double *speeds, siz
 
 /* The setting of a segment's ramp in the live case: open; fixed at a rate in mv a step; ALINEA with target in
  * veh/km/lane, gain in mv a step for each veh/km/lane by which density misses the target, least in mv a step, interval
- * in steps. 12, 17, 19, 20. */
+ * in steps. 19 where no segment goes on to this one, as at segment 1, or it has no origin. 12, 17, 19, 20. */
 uint64_t study_meter_open(uint64_t *words, size_t words_len, const double *speeds, size_t speeds_len, uint64_t segment);
 uint64_t study_meter_fixed(uint64_t *words, size_t words_len, const double *speeds, size_t speeds_len, uint64_t segment,
                            uint64_t rate);
@@ -114,8 +119,8 @@ uint64_t study_report_segment(const uint64_t *words, size_t words_len, const dou
 uint64_t study_run_count(const uint64_t *words, size_t words_len, const double *speeds, size_t speeds_len,
                          uint64_t *figures, size_t figures_len);
 
-/* The study's network as a file, from out[0] on; later bytes stay. 12, 24. The length of the file is
- * 16 + 804 * out[7] + 16 * out[6]. */
+/* The study's network as a file of its own version, from out[0] on; later bytes stay. 12, 24. The length of the file is
+ * 16 + 804 * out[7] + 16 * out[6] in version 1, where out[4] is 1, and 16 + 804 * out[7] + 20 * out[6] in version 2. */
 uint64_t study_write(const uint64_t *words, size_t words_len, const double *speeds, size_t speeds_len, uint8_t *out,
                      size_t out_len);
 

@@ -2,7 +2,8 @@
 
 use crate::input::Input;
 use harness::compare::{curves, expect_agreement, surveys, Difference};
-use harness::networks::{calm_road, network, road, Shape};
+use harness::draft::{record_length, CURVE, HEAD};
+use harness::networks::{calm_road, network, road, Shape, ANY};
 use harness::random::Random;
 use oracle::file::{self, Network};
 
@@ -32,7 +33,7 @@ fn ask(file: &[u8], curve: u64, random: &mut Random) -> Result<(), Difference> {
     curves::expect_agreement(file, curve, random)
 }
 
-/// A valid network, mostly of few segments.
+/// A valid network of either version, mostly of few segments.
 pub fn valid(input: &mut Input, random: &mut Random) -> Network {
     let size = u64::from(input.byte());
     let segments = match size {
@@ -42,6 +43,7 @@ pub fn valid(input: &mut Input, random: &mut Random) -> Network {
     let binding = Shape {
         least_segments: 2,
         binding: true,
+        ..ANY
     };
     match size / 6 % 8 {
         0..=3 => road(random, segments),
@@ -66,13 +68,17 @@ pub fn changed(input: &mut Input, network: &Network) -> Box<[u8]> {
     file.into()
 }
 
-/// A byte of the head, of a curve, of a record, or any.
+/// A byte of the head, of a curve, of a record, of its end, where version 2 has
+/// followers and share, or any.
 fn place(input: &mut Input, file: &[u8], network: &Network) -> usize {
-    let records = 16 + 804 * network.curves.len();
-    match input.below(4) {
-        0 => input.below(16),
-        1 => 16 + 4 * input.place(201 * network.curves.len()) + input.below(4),
-        2 => records + input.place(16 * network.segments.len()),
+    let (curves, segments) = (network.curves.len(), network.segments.len());
+    let records = HEAD + CURVE * curves;
+    let length = record_length(network.version);
+    match input.below(5) {
+        0 => input.below(HEAD),
+        1 => HEAD + 4 * input.place(201 * curves) + input.below(4),
+        2 => records + input.place(length * segments),
+        3 => records + length * (1 + input.place(segments)) - 1 - input.below(4),
         _ => input.place(file.len()),
     }
 }

@@ -1,5 +1,6 @@
-//! Inputs to begin with: whole valid files and survey files, sound studies and
-//! lists of right calls, damaged arrays, and short bytes of any content.
+//! Inputs to begin with: whole valid files of both versions and survey files,
+//! sound studies and lists of right calls, damaged arrays, and short bytes of
+//! any content.
 
 use harness::calls::KINDS;
 use harness::networks::road;
@@ -12,7 +13,7 @@ use std::{fs, io};
 /// Inputs of each kind.
 const EACH: u64 = 40;
 /// Largest network of a whole file: larger ones are made from few bytes.
-const SEGMENTS: u64 = 4;
+const SEGMENTS: u64 = 6;
 
 /// Writes all of them into the folder; the same seed gives the same inputs.
 pub fn write(folder: &Path, seed: u64) -> io::Result<()> {

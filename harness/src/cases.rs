@@ -4,6 +4,7 @@
 mod arrivals;
 mod figures;
 mod ramps;
+mod still;
 
 use crate::random::Random;
 pub use arrivals::{arrivals, spoil_arrival, spoil_length};
@@ -58,6 +59,9 @@ fn ordinary(random: &mut Random, network: &Network) -> Case {
         time: random.edge(0, MOST_TIME),
     };
     case.steps = steps(random, &case);
+    if random.once_in(4) {
+        still::still(random, network, &mut case);
+    }
     case
 }
 

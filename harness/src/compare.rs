@@ -191,6 +191,7 @@ fn expect_place(file: &[u8], what: &str) -> Result<(), Difference> {
         }
         reached::note(function, engine);
     }
+    reached::places::note(file, &oracle);
     Ok(())
 }
 

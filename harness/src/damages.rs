@@ -1,8 +1,10 @@
 //! Damages to a valid file, to a survey file, to a stored network, to a sound case, or to what a
 //! study keeps between the two, each with the number that it must bring.
 
+mod chain;
 mod curves;
 mod figures;
+mod followers;
 mod head;
 mod length;
 mod marks;
@@ -16,7 +18,7 @@ mod survey;
 
 use crate::arrays::Arrays;
 use crate::draft::Draft;
-use crate::networks::Shape;
+use crate::networks::{Roads, Shape};
 use crate::random::Random;
 use crate::stored_case::CaseDraft;
 use crate::words::Stored;
@@ -33,6 +35,19 @@ pub enum Part {
     FirstRecord,
     LaterRecord,
     LastRecord,
+    /// A record that has another after it, in a file of version 2.
+    FollowedRecord,
+    /// Any record of a file of version 2.
+    JunctionRecord,
+    /// A record past the first, in a file of version 2.
+    LaterJunctionRecord,
+    /// Any record of a study of version 1, or one past the first.
+    ChainRecord,
+    LaterChainRecord,
+    /// A segment that has one before it.
+    Entered,
+    /// A segment past the first that has none before it.
+    Source,
 }
 
 /// A damage to `D`: a file, a survey file, the words of a stored network, a case in words and
@@ -50,8 +65,9 @@ impl<D> Damage<D> {
     /// What a network needs so that the damage can be done to it.
     pub fn shape(&self) -> Shape {
         Shape {
-            least_segments: if self.part == Part::LaterRecord { 2 } else { 1 },
+            least_segments: self.part.least_segments(),
             binding: self.number == 8,
+            roads: self.part.roads(),
         }
     }
 
@@ -62,27 +78,65 @@ impl<D> Damage<D> {
         let place = match self.part {
             Part::File | Part::FirstRecord => 0,
             Part::Curve => random.edge(0, last_curve),
-            Part::Record => random.edge(0, last_record),
-            Part::LaterRecord => random.edge(1, last_record),
+            Part::Record | Part::JunctionRecord | Part::ChainRecord => random.edge(0, last_record),
+            Part::LaterRecord | Part::LaterJunctionRecord | Part::LaterChainRecord => {
+                random.edge(1, last_record)
+            }
             Part::LastRecord => last_record,
+            Part::FollowedRecord => random.edge(0, last_record - 1),
+            Part::Entered => one_past_the_first(network, true, random),
+            Part::Source => one_past_the_first(network, false, random),
         };
         place as usize
     }
 }
 
+impl Part {
+    fn least_segments(self) -> u64 {
+        match self {
+            Part::File | Part::Curve | Part::Record | Part::FirstRecord => 1,
+            Part::LastRecord | Part::JunctionRecord | Part::ChainRecord => 1,
+            _ => 2,
+        }
+    }
+
+    fn roads(self) -> Roads {
+        match self {
+            Part::FollowedRecord | Part::JunctionRecord | Part::LaterJunctionRecord => {
+                Roads::Junctions
+            }
+            Part::ChainRecord | Part::LaterChainRecord => Roads::Chain,
+            Part::Entered => Roads::Entered,
+            Part::Source => Roads::Source,
+            _ => Roads::Any,
+        }
+    }
+}
+
+/// A place past the first that has a segment before it, or none; both ends
+/// often. There is one.
+fn one_past_the_first(network: &Network, entered: bool, random: &mut Random) -> u64 {
+    let later = 1..network.segments.len();
+    let fitting: Vec<usize> = later
+        .filter(|&place| network.entered(place) == entered)
+        .collect();
+    fitting[random.edge(0, fitting.len() as u64 - 1) as usize] as u64
+}
+
 /// Every damage to a file.
-pub const FILE: [&[Damage<Draft>]; 4] = [
+pub const FILE: [&[Damage<Draft>]; 5] = [
     head::DAMAGES,
     length::DAMAGES,
     curves::DAMAGES,
     records::DAMAGES,
+    followers::DAMAGES,
 ];
 
 /// Every damage to a survey file.
 pub const SURVEY: [&[Damage<Vec<u8>>]; 1] = [survey::DAMAGES];
 
 /// Every damage to the words of a stored network.
-pub const STORED: [&[Damage<Stored>]; 1] = [stored::DAMAGES];
+pub const STORED: [&[Damage<Stored>]; 2] = [stored::DAMAGES, chain::DAMAGES];
 
 /// Every damage to the words between a study's network and its cases.
 pub const MARKS: [&[Damage<Arrays>]; 1] = [marks::DAMAGES];

@@ -1,13 +1,23 @@
 //! A valid file that a test is about to damage.
 
 use crate::bounds::{too_short, Bound};
+use crate::networks::cut_off;
 use crate::random::Random;
 use oracle::file::{self, Network};
 
-/// Bytes of a head, and of a record.
+/// Bytes of a head.
 pub const HEAD: usize = 16;
 /// Bytes of a curve.
 pub const CURVE: usize = 804;
+
+/// Bytes of a record of that version.
+pub fn record_length(version: u16) -> usize {
+    if version == 1 {
+        16
+    } else {
+        20
+    }
+}
 
 pub struct Draft {
     /// The network before the damage.
@@ -40,7 +50,23 @@ impl Draft {
 
     /// Where a record (from 0) begins in the file.
     pub fn record_at(&self, record: usize) -> usize {
-        HEAD + CURVE * self.network.curves.len() + HEAD * record
+        let curves = CURVE * self.network.curves.len();
+        HEAD + curves + record_length(self.network.version) * record
+    }
+
+    /// Followers and share of a record of version 2.
+    pub fn put_followers(&mut self, record: usize, [first, second, share]: [u64; 3]) {
+        let at = self.record_at(record) + 16;
+        self.put8(at, first);
+        self.put8(at + 1, second);
+        self.put16(at + 2, share);
+    }
+
+    /// No segment is before a record's, and it has no origin: all that entered
+    /// it leave it out.
+    pub fn cut_off(&mut self, record: usize) {
+        cut_off(&mut self.network, record);
+        self.bytes = file::write(&self.network);
     }
 
     /// A byte changed to any other value.

@@ -12,10 +12,11 @@
 mod declared;
 
 functions! {
-    network_check(file: [u8]) refused by [1, 2, 3, 4, 5, 6, 7, 8];
-    network_curve_number(file: [u8], curve: u64) refused by [1, 2, 3, 4, 5, 6, 7, 8, 10];
+    network_check(file: [u8]) refused by [1, 2, 3, 4, 5, 6, 7, 27, 8, 28];
+    network_curve_number(file: [u8], curve: u64)
+        refused by [1, 2, 3, 4, 5, 6, 7, 27, 8, 28, 10];
     network_curve(file: [u8], curve: u64, place: [mut u64])
-        refused by [1, 2, 3, 4, 5, 6, 7, 8, 10, 24];
+        refused by [1, 2, 3, 4, 5, 6, 7, 27, 8, 28, 10, 24];
     network_place(file: [u8], place: [mut u64]) refused by [24];
 
     survey_read(file: [u8], n: u64, arrivals: [mut u32], figures: [mut u64])
@@ -24,7 +25,7 @@ functions! {
 
     study_sound(study) refused by [12];
     study_start(study, file: [u8], mvs: [u32], initial_speeds: [u32], queues: [u32])
-        refused by [1, 2, 3, 4, 5, 6, 7, 8, 11, 13, 14];
+        refused by [1, 2, 3, 4, 5, 6, 7, 27, 8, 28, 11, 13, 14];
     study_sign(study, segment: u64, limit: u64, compliance: i64) refused by [12, 17, 18];
     study_meter_open(study, segment: u64) refused by [12, 17, 19];
     study_meter_fixed(study, segment: u64, rate: u64) refused by [12, 17, 19, 20];

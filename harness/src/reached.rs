@@ -1,10 +1,14 @@
-//! Which numbers the C functions answered in this run, how runs ended, and what
-//! steps met at a mainstream origin.
+//! Which numbers the C functions answered in this run, how runs ended, where
+//! files were refused, and what steps met at a mainstream origin and where
+//! freeways part and meet.
 
+pub mod junctions;
 pub mod mainstream;
+pub mod places;
 
 use crate::calls::Answer;
 use crate::engine::Function;
+use std::fmt::Display;
 use std::sync::atomic::{AtomicU64, Ordering};
 
 /// More numbers than the papers have.
@@ -67,19 +71,32 @@ pub fn say() -> bool {
         complete &= times(0) > 0 && numbers.iter().all(|&number| times(number) > 0);
     }
     complete &= say_ends();
-    mainstream::say() && complete
+    complete &= places::say();
+    complete &= mainstream::say();
+    junctions::say() && complete
 }
 
-/// The same for the ends of runs, in one line.
+/// The same for the ends of runs.
 fn say_ends() -> bool {
-    let times = ENDED.each_ref().map(|end| end.load(Ordering::Relaxed));
-    let ends = ENDS.iter().zip(times);
-    let ends: Vec<String> = ends.map(|((.., name), times)| said(name, times)).collect();
-    println!("{:<22} {}", "runs ended", ends.join(", "));
-    times.iter().all(|&times| times > 0)
+    let ends = ENDS.iter().zip(&ENDED);
+    say_line("runs ended", ends.map(|((.., name), count)| (*name, count)))
 }
 
-fn said(what: impl std::fmt::Display, times: u64) -> String {
+/// Prints one line: of each of these how often it came up. Answers whether all
+/// of them did.
+fn say_line<'a, W: Display>(name: &str, ways: impl Iterator<Item = (W, &'a AtomicU64)>) -> bool {
+    let times = ways.map(|(way, count)| (way, count.load(Ordering::Relaxed)));
+    let times: Vec<(W, u64)> = times.collect();
+    if times.iter().all(|&(_, times)| times == 0) {
+        println!("{name:<22} not asked");
+        return false;
+    }
+    let ways: Vec<String> = times.iter().map(|(way, times)| said(way, *times)).collect();
+    println!("{name:<22} {}", ways.join(", "));
+    times.iter().all(|&(_, times)| times > 0)
+}
+
+fn said(what: impl Display, times: u64) -> String {
     match times {
         0 => format!("{what} NEVER"),
         times => format!("{what} ({times})"),

@@ -1,9 +1,11 @@
 //! The network as stored words, a word a number.
 //!
-//! Words 0..6 are T, n, c, τ, ν, κ, δ; then curves from word 16, 201 words
-//! each, and records from word 1624, 16 words each, 8 of them used.
+//! Words 0..7 are T, n, c, τ, ν, κ, δ and the version; then curves from word
+//! 16, 201 words each, and records from word 1624, 16 words each, 11 of them
+//! used.
 
 use crate::bounds::{too_short, Bound};
+use crate::networks::cut_off;
 use crate::random::Random;
 use oracle::file::{Network, Segment};
 
@@ -26,6 +28,12 @@ impl Stored {
         self.words[field_word(record, 0)] = too_short(&self.network, record);
     }
 
+    /// No segment is before a record's, and it has no origin.
+    pub fn cut_off(&mut self, record: usize) {
+        cut_off(&mut self.network, record);
+        put_network(&self.network, &mut self.words);
+    }
+
     /// The same network with F × T and 3600 × L as they are here.
     pub fn rebound(&mut self, record: usize, bound: Bound) {
         bound.put(&mut self.network, record);
@@ -35,13 +43,13 @@ impl Stored {
 
 /// Puts the network into its words; the others stay.
 pub fn put_network(network: &Network, words: &mut [u64]) {
-    words[..7].copy_from_slice(&head(network));
+    words[..8].copy_from_slice(&head(network));
     for (curve, entries) in network.curves.iter().enumerate() {
         let entries = entries.map(u64::from);
         words[entry_word(curve, 0)..][..entries.len()].copy_from_slice(&entries);
     }
     for (record, segment) in network.segments.iter().enumerate() {
-        words[field_word(record, 0)..][..8].copy_from_slice(&fields(segment));
+        words[field_word(record, 0)..][..11].copy_from_slice(&fields(segment));
     }
 }
 
@@ -50,7 +58,8 @@ pub fn entry_word(curve: usize, entry: usize) -> usize {
     16 + 201 * curve + entry
 }
 
-/// The word of a field of a record (from 0): L, H, curve, C, J, origin, X, Q.
+/// The word of a field of a record (from 0): L, H, curve, C, J, origin, X, Q,
+/// first and second follower, share.
 pub fn field_word(record: usize, field: usize) -> usize {
     1624 + 16 * record + field
 }
@@ -69,7 +78,7 @@ pub fn garbage(random: &mut Random, count: usize) -> Vec<u64> {
     words
 }
 
-fn head(network: &Network) -> [u64; 7] {
+fn head(network: &Network) -> [u64; 8] {
     [
         u64::from(network.step),
         network.segments.len() as u64,
@@ -78,10 +87,11 @@ fn head(network: &Network) -> [u64; 7] {
         u64::from(network.anticipation),
         u64::from(network.kappa),
         u64::from(network.merging),
+        u64::from(network.version),
     ]
 }
 
-fn fields(segment: &Segment) -> [u64; 8] {
+fn fields(segment: &Segment) -> [u64; 11] {
     [
         u64::from(segment.length),
         u64::from(segment.lanes),
@@ -91,5 +101,8 @@ fn fields(segment: &Segment) -> [u64; 8] {
         u64::from(segment.origin),
         u64::from(segment.exit_share),
         u64::from(segment.most_released),
+        u64::from(segment.followers.first),
+        u64::from(segment.followers.second),
+        u64::from(segment.followers.share),
     ]
 }

@@ -4,13 +4,13 @@ use crate::network::{Network, Segment};
 
 #[derive(Clone, Debug, PartialEq)]
 pub struct Case {
-    /// One for each segment, in driving order.
+    /// One for each segment, in the order of their numbers.
     pub segments: Vec<SegmentState>,
     /// Steps on the line so far.
     pub steps: u64,
     /// All arrivals so far, in mv.
     pub arrivals: u64,
-    /// All that has left by an off-ramp or after segment n, in mv.
+    /// All that has left by an off-ramp or where no segment follows, in mv.
     pub exits: u64,
     /// Time spent, in mv·s.
     pub time: u64,

@@ -5,20 +5,30 @@ mod read;
 mod write;
 
 use crate::network::ENTRIES;
+use crate::ranges::JUNCTIONS;
 use crate::refusal::NO_CURVE;
 use read::judge;
 
-pub use crate::network::{Curve, Network, Segment};
+pub use crate::network::{Curve, Followers, Network, Segment};
 pub use place::{place, Place};
 pub use write::write;
 
 /// The mark that begins every file.
 const MARK_BYTES: &[u8; 3] = b"FWN";
-/// The only version.
-const FILE_VERSION: u16 = 1;
 const HEAD_BYTES: usize = 16;
 const CURVE_BYTES: usize = 4 * ENTRIES;
+/// Bytes of a record of version 1; one of version 2 begins with them.
 const RECORD_BYTES: usize = 16;
+/// Bytes for followers and share, in version 2.
+const FOLLOWER_BYTES: usize = 4;
+
+/// Bytes of a record of that version.
+fn record_bytes(version: u64) -> usize {
+    match version {
+        JUNCTIONS => RECORD_BYTES + FOLLOWER_BYTES,
+        _ => RECORD_BYTES,
+    }
+}
 
 /// 0 if the file is accepted, else the first row of the table that applies.
 pub fn check(file: &[u8]) -> u8 {

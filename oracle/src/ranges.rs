@@ -3,11 +3,22 @@
 //! Fields are 64-bit numbers here: a stored word may be any number,
 //! and nothing may be cut off before it is judged.
 
+mod ahead;
+
 use crate::network::{Curve, Network, Segment, ENTRIES};
-use crate::refusal::{CURVE_ENTRY, RECORD_FIELD, TOO_SHORT_A_SEGMENT};
+use crate::refusal::{CURVE_ENTRY, FOLLOWER, RECORD_FIELD, TOO_SHORT_A_SEGMENT};
+pub(crate) use ahead::{Ahead, Entries};
+
+/// The version in which each segment is followed by the next.
+pub(crate) const CHAIN: u64 = 1;
+/// The version whose records say which segments follow.
+pub(crate) const JUNCTIONS: u64 = 2;
+/// Most segments of a network.
+const MOST_SEGMENTS: u64 = 40;
 
 /// The head's fields, not yet judged.
 pub(crate) struct Head {
+    pub version: u64,
     pub step: u64,
     pub segments: u64,
     pub curves: u64,
@@ -18,9 +29,15 @@ pub(crate) struct Head {
 }
 
 impl Head {
+    /// Row 3.
+    pub fn known_version(&self) -> bool {
+        [CHAIN, JUNCTIONS].contains(&self.version)
+    }
+
+    /// Row 4.
     pub fn in_range(&self) -> bool {
         (1..=60).contains(&self.step)
-            && (1..=40).contains(&self.segments)
+            && (1..=MOST_SEGMENTS).contains(&self.segments)
             && (1..=8).contains(&self.curves)
             && (1..=120).contains(&self.relaxation)
             && self.anticipation <= 200
@@ -31,6 +48,7 @@ impl Head {
     /// The typed network of a head in range.
     pub fn network(&self, curves: Vec<Curve>, segments: Vec<Segment>) -> Network {
         Network {
+            version: self.version as u16,
             step: self.step as u8,
             relaxation: self.relaxation as u8,
             anticipation: self.anticipation as u8,
@@ -52,13 +70,14 @@ pub(crate) struct Record {
     pub origin: u64,
     pub exit_share: u64,
     pub most_released: u64,
+    pub ahead: Ahead,
 }
 
 impl Record {
     /// Whether every field of record `place` (from 0) is in range.
     pub fn in_range(&self, place: u64, head: &Head) -> bool {
         let first = place == 0;
-        let last = place + 1 == head.segments;
+        let end = self.ahead.first == 0 && self.ahead.second == 0;
         (100..=2000).contains(&self.length)
             && (1..=8).contains(&self.lanes)
             && self.curve < head.curves
@@ -67,8 +86,9 @@ impl Record {
             && self.origin <= 1
             && (!first || self.origin == 1)
             && self.exit_share <= 1000
-            && (!last || self.exit_share == 0)
+            && (!end || self.exit_share == 0)
             && self.release_in_range()
+            && self.ahead.share_in_range()
     }
 
     /// Q is 1..300,000 mv with an origin, else 0.
@@ -90,6 +110,7 @@ impl Record {
             origin: self.origin == 1,
             exit_share: self.exit_share as u16,
             most_released: self.most_released as u32,
+            followers: self.ahead.followers(),
         }
     }
 }
@@ -110,7 +131,7 @@ where
     }
 }
 
-/// Rows 7 and 8 for record `place` (from 0). `first_entry` gives F of a
+/// Rows 7, 27 and 8 for record `place` (from 0). `first_entry` gives F of a
 /// curve, and is asked only for a curve that exists.
 pub(crate) fn judge_record(
     record: &Record,
@@ -120,6 +141,9 @@ pub(crate) fn judge_record(
 ) -> Result<(), u8> {
     if !record.in_range(place, head) {
         return Err(RECORD_FIELD);
+    }
+    if !record.ahead.fits(place, head.segments) {
+        return Err(FOLLOWER);
     }
     let free_speed = first_entry(record.curve as usize);
     if free_speed * head.step > 3600 * record.length {

@@ -4,11 +4,11 @@
 pub const NO_HEAD: u8 = 1;
 /// The file does not begin with "FWN".
 pub const MARK: u8 = 2;
-/// Another version than 1.
+/// Another version than 1 and 2.
 pub const VERSION: u8 = 3;
 /// A head field out of range, or a head byte that should be zero.
 pub const HEAD_FIELD: u8 = 4;
-/// Length not 16 + 804c + 16n.
+/// Length not 16 + 804c + 16n, or 16 + 804c + 20n in version 2.
 pub const LENGTH: u8 = 5;
 /// A curve entry out of range or rising.
 pub const CURVE_ENTRY: u8 = 6;
@@ -35,7 +35,7 @@ pub const NO_MORE_STEPS: u8 = 16;
 pub const NO_SEGMENT: u8 = 17;
 /// Limit neither 0 nor 20..200, or compliance outside −500..500.
 pub const SIGN: u8 = 18;
-/// Meter at segment 1 or without an origin.
+/// Meter where no segment is before or without an origin.
 pub const NO_RAMP: u8 = 19;
 /// A meter's setting out of range.
 pub const SETTING: u8 = 20;
@@ -52,3 +52,8 @@ pub const SURVEY_HEAD: u8 = 25;
 /// Survey: another n than the study's or outside 1..40, more than 20,000
 /// rows, or a length that is not that of whole rows.
 pub const SURVEY_SIZE: u8 = 26;
+/// A follower that is not higher than its segment or above n, a second without
+/// a first, or one segment named twice.
+pub const FOLLOWER: u8 = 27;
+/// A segment with neither a segment before it nor an origin.
+pub const NOTHING_ENTERS: u8 = 28;

@@ -1,11 +1,13 @@
 //! The network as it is stored in lent words, a word a number.
 //!
-//! Words 0..6 are T, n, c, τ, ν, κ, δ; entry j of curve k is word
-//! 16 + 201k + j; field f of record i (from 0) is word 1624 + 16i + f, the
-//! fields being L, H, curve, C, J, origin, X, Q. Other words are not read.
+//! Words 0..7 are T, n, c, τ, ν, κ, δ and the version; entry j of curve k is
+//! word 16 + 201k + j; field f of record i (from 0) is word 1624 + 16i + f, the
+//! fields being L, H, curve, C, J, origin, X, Q, first and second follower,
+//! share. A study of version 1 has its chain in the last three. Other words are
+//! not read.
 
 use crate::network::{Curve, Network, Segment, ENTRIES};
-use crate::ranges::{judge_curve, judge_record, Head, Record};
+use crate::ranges::{judge_curve, judge_record, Ahead, Entries, Head, Record, CHAIN};
 
 /// Words that the stored network may take.
 pub(crate) const NETWORK_WORDS: usize = 2560;
@@ -13,14 +15,14 @@ const CURVES_AT: usize = 16;
 const RECORDS_AT: usize = 1624;
 const RECORD_WORDS: usize = 16;
 
-/// The network in the words, or nothing where there are too few of them or
-/// one of rows 4, 6, 7 and 8 applies.
+/// The network in the words, or nothing where there are too few of them, the
+/// version is not one of ours, one of rows 4, 6, 7, 27, 8 and 28 applies, or
+/// version 1 is no chain.
 pub(crate) fn read(words: &[u64]) -> Option<Network> {
     let head = judge(words.get(..NETWORK_WORDS)?)?;
     let curves = (0..head.curves as usize).map(|curve| typed_curve(words, curve));
-    let records = (0..head.segments as usize).map(|place| stored_record(words, place));
-    let segments = records.map(|record| record.segment()).collect();
-    Some(head.network(curves.collect(), segments))
+    let segments = records(words, head.segments).map(|record| record.segment());
+    Some(head.network(curves.collect(), segments.collect()))
 }
 
 /// Puts the network into its words, of which there are enough; all others up
@@ -34,6 +36,7 @@ pub(crate) fn put(network: &Network, words: &mut [u64]) {
     words[4] = u64::from(network.anticipation);
     words[5] = u64::from(network.kappa);
     words[6] = u64::from(network.merging);
+    words[7] = u64::from(network.version);
     let entries = network.curves.iter().flatten();
     for (word, &entry) in words[CURVES_AT..].iter_mut().zip(entries) {
         *word = u64::from(entry);
@@ -43,20 +46,26 @@ pub(crate) fn put(network: &Network, words: &mut [u64]) {
     }
 }
 
-/// Rows 4, 6, 7 and 8 on the stored numbers: the head where none applies.
+/// Rows 3, 4, 6, 7, 27, 8 and 28 on the stored numbers: the head where none
+/// applies.
 fn judge(words: &[u64]) -> Option<Head> {
     let head = stored_head(words);
-    if !head.in_range() {
+    if !head.known_version() || !head.in_range() {
         return None;
     }
     for curve in 0..head.curves as usize {
         judge_curve(stored_curve(words, curve).iter().copied()).ok()?;
     }
-    for place in 0..head.segments as usize {
-        let record = stored_record(words, place);
+    let mut entries = Entries::default();
+    for (place, record) in (0..).zip(records(words, head.segments)) {
         let first_entry = |curve| stored_curve(words, curve)[0];
-        judge_record(&record, place as u64, &head, first_entry).ok()?;
+        judge_record(&record, place, &head, first_entry).ok()?;
+        if head.version == CHAIN && record.ahead != Ahead::chain(place, head.segments) {
+            return None;
+        }
+        entries.take(place + 1, &record);
     }
+    entries.judge().ok()?;
     Some(head)
 }
 
@@ -69,6 +78,7 @@ fn stored_head(words: &[u64]) -> Head {
         anticipation: words[4],
         kappa: words[5],
         merging: words[6],
+        version: words[7],
     }
 }
 
@@ -76,8 +86,13 @@ fn stored_curve(words: &[u64], curve: usize) -> &[u64] {
     &words[CURVES_AT + ENTRIES * curve..][..ENTRIES]
 }
 
-fn stored_record(words: &[u64], place: usize) -> Record {
-    let fields = &words[RECORDS_AT + RECORD_WORDS * place..][..RECORD_WORDS];
+/// The records of n segments, not yet judged.
+fn records(words: &[u64], n: u64) -> impl Iterator<Item = Record> + '_ {
+    let records = words[RECORDS_AT..].chunks_exact(RECORD_WORDS);
+    records.take(n as usize).map(stored_record)
+}
+
+fn stored_record(fields: &[u64]) -> Record {
     Record {
         length: fields[0],
         lanes: fields[1],
@@ -87,6 +102,11 @@ fn stored_record(words: &[u64], place: usize) -> Record {
         origin: fields[5],
         exit_share: fields[6],
         most_released: fields[7],
+        ahead: Ahead {
+            first: fields[8],
+            second: fields[9],
+            share: fields[10],
+        },
     }
 }
 
@@ -99,6 +119,9 @@ fn put_record(segment: &Segment, fields: &mut [u64]) {
     fields[5] = u64::from(segment.origin);
     fields[6] = u64::from(segment.exit_share);
     fields[7] = u64::from(segment.most_released);
+    fields[8] = u64::from(segment.followers.first);
+    fields[9] = u64::from(segment.followers.second);
+    fields[10] = u64::from(segment.followers.share);
 }
 
 /// A judged curve: every entry fits 32 bits.

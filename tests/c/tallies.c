@@ -1,7 +1,8 @@
 /* The listing of document 01 through the C interface: its network file is built in memory, a study is started on it, and
- * both steps are made. Then come the slots, refusals, Write, and the same two steps as a run of a survey file. Every
- * difference is a line on standard error; the exit status is 0 where there is none. The arrays are exactly as long as one
- * segment needs; the speed of an empty slot is a NaN whose bits no call may change. */
+ * both steps are made. Then come the slots, refusals, Write, the same two steps as a run of a survey file, and a step on a
+ * network where freeways meet and part. Every difference is a line on standard error; the exit status is 0 where there is
+ * none. The arrays are exactly as long as the segments need; the speed of an empty slot is a NaN whose bits no call may
+ * change. */
 #include "engine.h"
 
 #include <inttypes.h>
@@ -13,10 +14,17 @@
 #define WORDS (2576 + 7 * (16 + 8))
 #define SPEEDS 7
 #define DAY_BYTES (8 + 4 * 2)   /* a survey file of two rows of one arrival */
-#define ARRANGEMENT 1           /* the number of this arrangement */
+#define ARRANGEMENT 2           /* the number of this arrangement */
 #define ARRANGEMENT_AT 2575     /* its word */
 #define START 2                 /* the slot of the start case */
 #define EMPTY 3                 /* a slot that stays empty */
+
+/* The network of the junction: five segments in a file of version 2, with records of 20 bytes. */
+#define JUNCTION_SEGMENTS 5
+#define JUNCTION_BYTES (16 + 804 + 20 * JUNCTION_SEGMENTS)
+#define JUNCTION_WORDS (2576 + 7 * (16 * JUNCTION_SEGMENTS + 8))
+#define JUNCTION_SPEEDS (7 * JUNCTION_SEGMENTS)
+#define RECORD_AT(segment) (16 + 804 + 20 * ((segment) - 1))
 
 typedef struct {
     uint64_t *words;
@@ -289,6 +297,95 @@ static void runs(Study study, uint8_t *day)
     expect_case(study, 0, listing[1]);
 }
 
+/* T 10, tau 20, nu 60, kappa 40, delta 122, one curve all 100,000. Segments 1 and 2 enter 3, which parts into 4 and 5: 333
+ * thousandths of what its off-ramp leaves go to 4. All are L 500, H 2, C 30, J 180. It is tests/junction.fwn. */
+static void build_junction(uint8_t *file)
+{
+    static const uint8_t head[16] = {'F', 'W', 'N', 0, 2, 10, JUNCTION_SEGMENTS, 1, 20, 60, 40, 0, 0, 122};
+    static const uint16_t most[JUNCTION_SEGMENTS] = {6000, 4000, 2000, 0, 0};
+    static const uint8_t followers[JUNCTION_SEGMENTS][2] = {{3, 0}, {3, 0}, {4, 5}, {0, 0}, {0, 0}};
+    memcpy(file, head, 16);
+    for (int entry = 0; entry < 201; entry++)
+        put32(file + 16 + 4 * entry, 100000);
+    for (int i = 0; i < JUNCTION_SEGMENTS; i++) {
+        uint8_t *bytes = file + RECORD_AT(i + 1);
+        const uint8_t record[16] = {500 >> 8, 500 & 255, 2, 0, 30, 180, most[i] != 0, 0, 0, i == 2 ? 77 : 0};
+        const uint16_t share = i == 2 ? 333 : 1000;
+        memcpy(bytes, record, 16);
+        put32(bytes + 10, most[i]);
+        memcpy(bytes + 16, followers[i], 2);
+        bytes[18] = (uint8_t)(share >> 8);
+        bytes[19] = (uint8_t)share;
+    }
+}
+
+/* A follower that is not higher, and a segment that nothing enters, are told with their places. */
+static void junction_places(uint8_t *file)
+{
+    uint64_t place[4];
+    expect("junction, check", network_check(file, JUNCTION_BYTES), 0);
+    file[RECORD_AT(3) + 17] = 3;
+    expect("junction, follower", network_check(file, JUNCTION_BYTES), 27);
+    expect("place of 27", network_place(file, JUNCTION_BYTES, place, 4), 0);
+    expect("number of 27", place[0], 27);
+    expect("record of 27", place[1], 2);
+    expect("condition of 27", place[2], 0);
+    expect("byte of 27", place[3], RECORD_AT(3) + 17);
+    file[RECORD_AT(3) + 17] = 5;
+    file[RECORD_AT(2) + 6] = 0;
+    put32(file + RECORD_AT(2) + 10, 0);
+    expect("place of 28", network_place(file, JUNCTION_BYTES, place, 4), 0);
+    expect("number of 28", place[0], 28);
+    expect("segment of 28", place[1], 1);
+    expect("byte of 28", place[3], RECORD_AT(2) + 6);
+    build_junction(file);
+}
+
+/* One step on the junction, worked out by hand: what enters 3 is what leaves 1 and 2, what leaves 3 parts. */
+static void junction_step(uint64_t *words, double *speeds)
+{
+    static const uint32_t arrivals[JUNCTION_SEGMENTS] = {3000, 5000, 500, 0, 0};
+    static const uint64_t counts[JUNCTION_SEGMENTS] = {33000, 34000, 61500, 8629, 24157};
+    static const uint64_t listed[6] = {1, 161286, 1000, 8500, 770 + 4444 + 12000, 1710000};
+    uint64_t figures[7];
+    expect("junction, step", study_step(words, JUNCTION_WORDS, speeds, JUNCTION_SPEEDS, arrivals, 5), 0);
+    expect("junction, report", study_report(words, JUNCTION_WORDS, speeds, JUNCTION_SPEEDS, 0, figures, 6), 0);
+    for (int i = 0; i < 6; i++)
+        expect("junction, figure", figures[i], listed[i]);
+    for (uint64_t i = 0; i < JUNCTION_SEGMENTS; i++) {
+        uint64_t refused = study_report_segment(words, JUNCTION_WORDS, speeds, JUNCTION_SPEEDS, 0, i + 1, figures, 7);
+        expect("junction, segment report", refused, 0);
+        expect("junction, N", figures[0], counts[i]);
+    }
+}
+
+/* Freeways that meet and part: a study on the network, a step, its meters, and the file in its own version. */
+static void junction(void)
+{
+    static const uint32_t mvs[JUNCTION_SEGMENTS] = {60000, 40000, 30000, 10000, 30000};
+    static const uint32_t initial[JUNCTION_SEGMENTS] = {90000, 45000, 60000, 80000, 72000};
+    static const uint32_t queues[JUNCTION_SEGMENTS] = {0, 0, 1000, 0, 0};
+    const size_t w = JUNCTION_WORDS, v = JUNCTION_SPEEDS;
+    uint64_t *words = lend(w * sizeof *words);
+    double *speeds = lend(v * sizeof *speeds);
+    uint8_t *file = lend(JUNCTION_BYTES), *out = lend(JUNCTION_BYTES);
+    build_junction(file);
+    junction_places(file);
+    expect("junction, start", study_start(words, w, speeds, v, file, JUNCTION_BYTES, mvs, 5, initial, 5, queues, 5), 0);
+    expect("version", words[7], 2);
+    junction_step(words, speeds);
+    expect("meter with none before", study_meter_open(words, w, speeds, v, 2), 19);
+    expect("meter where two enter", study_meter_fixed(words, w, speeds, v, 3, 500), 0);
+    expect("junction, write, room", study_write(words, w, speeds, v, out, JUNCTION_BYTES - 1), 24);
+    expect("junction, bytes stay", out[0], 0xa5);
+    expect("junction, write", study_write(words, w, speeds, v, out, JUNCTION_BYTES), 0);
+    expect("junction, file", (uint64_t)memcmp(out, file, JUNCTION_BYTES), 0);
+    free(words);
+    free(speeds);
+    free(file);
+    free(out);
+}
+
 int main(void)
 {
     Study study = {lend(WORDS * sizeof(uint64_t)), lend(SPEEDS * sizeof(double)), lend(FILE_BYTES)};
@@ -307,6 +404,7 @@ int main(void)
     writing(study);
     survey(day);
     runs(study, day);
+    junction();
     expect("NaN in an empty slot", (uint64_t)memcmp(study.speeds + EMPTY, &no_number, sizeof no_number), 0);
     free(study.words);
     free(study.speeds);

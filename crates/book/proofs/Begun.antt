@@ -1,10 +1,11 @@
 -- A list of calls and runs that begins with a Start on the file of a network: its answers on arrays that are long enough are the book's.
 use Prim.Native.Nat.{ℕ, _≤_}
-use mathlib.Core.Path.{_≡_, refl, ap, _∙_}
+use mathlib.Core.Path.{_≡_, refl, sym, ap, _∙_}
 use mathlib.Core.Bool.{false, _||_}
-use mathlib.Core.List.{List, _∷_}
+use mathlib.Core.List.{List, [], _∷_}
+use native.Mathlib.Omega.{arith}
 use lib.Dec.{ltb}
-use lib.ListN.{length}
+use lib.ListN.{length, getD}
 use borrow.Author.Tests.{le-ltb}
 use Rattle.laws.specs.First.{row}
 use Rattle.laws.proofs.First.{row-skipped, first-zero}
@@ -47,3 +48,7 @@ module _ (w : Network) (within : networkNumber w ≡ 0) (formed : Formed w) (mvs
         let b : Book = started w (startCase w mvs speeds queues) in
         demand-3 (fileOf w) mvs speeds queues cs a b start-taken .same-answers
         ∙ (rw (begin-entered (fileOf w) mvs speeds queues a start-taken b, network-is) refl)
+
+-- a network of one curve has lists as long as its head says
+pub one-curve : (w : Network) → w .head .curves ≡ 1 → length (w .curves) ≡ 1 → length (getD (w .curves) 0 []) ≡ 201 → length (w .segments) ≡ w .head .size → Formed w
+one-curve w c l e s = record { curves = l ∙ sym c; entries = λ k h. ap (λ (j : ℕ). length (getD (w .curves) j [])) (omega (arith, c, h)) ∙ e; segments = s }

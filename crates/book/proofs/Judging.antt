@@ -38,7 +38,7 @@ module _ {words : List ℕ} {speeds : List Float} {n : ℕ} (laid : Laid words s
   pub case-judged : (k : ℕ) → caseNumberIn words speeds (caseWord n k) (caseSpeed n k) n ≡ caseNumberAt words speeds k
   case-judged k =
       ap (λ (m : ℕ). caseNumberIn words speeds (caseWord m k) (caseSpeed m k) m) (laid .size)
-      ∙ sym (case-number-from (headIn (netOf words)) (entryIn (netOf words)) (segmentIn (netOf words)) (laid .net .each) (caseAt words speeds k))
+      ∙ sym (case-number-from (headIn (netOf words)) (entryIn (netOf words)) (segmentIn (netOf words)) (laid .net) (caseAt words speeds k))
 
   -- ---- the cases
   abbrev pub wordsBad : Bool

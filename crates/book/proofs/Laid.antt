@@ -7,7 +7,7 @@ use lib.Ieee.{Float}
 use Rattle.metanet.proofs.Ready.{NetworkOk}
 use Rattle.book.specs.Arrangement.{wordsFor, speedsFor, sizeAt}
 
--- the network is within rows 4, 6, 7 and 8, n is its size, and the arrays are long enough
+-- the network is within the rows, n is its size, and the arrays are long enough
 pub record Laid (words : List ℕ) (speeds : List Float) (n : ℕ) : Type 0 where
   pub net : NetworkOk words
   pub size : n ≡ sizeAt words

@@ -81,7 +81,7 @@ module _ {words : List ℕ} {speeds : List Float} {n : ℕ} (at : Laid words spe
   -- 12 of a case, on the network's words
   case-number : (c : Case) → let w = networkAt words in let net = netOf words in
       caseNumber (w .head) (entryOf w) (segmentOf w) c ≡ caseNumber (headIn net) (entryIn net) (segmentIn net) c
-  case-number = case-number-from (headIn (netOf words)) (entryIn (netOf words)) (segmentIn (netOf words)) (at .net .each)
+  case-number = case-number-from (headIn (netOf words)) (entryIn (netOf words)) (segmentIn (netOf words)) (at .net)
 
   -- what judges it after the network and the lengths
   cases-are : keptNumber (netOf words) ≡ 0 → casesNumber words speeds ≡ soundNumber words speeds
@@ -160,7 +160,7 @@ module _ {words : List ℕ} {speeds : List Float} {n : ℕ} (ds : List ℕ) (at 
 
   live-is : caseAt (z .words) (z .speeds) 0 ≡ new
   unfolding change
-  live-is = store .written ∙ step-from (headIn net) (entryIn net) (segmentIn net) (at .net .each) c ds
+  live-is = store .written ∙ step-from (headIn net) (entryIn net) (segmentIn net) (at .net) c ds
 
   live-number : caseNumberAt (z .words) (z .speeds) 0 ≡ row (liveBad (z .words) n) 12 0
   live-number =
@@ -177,7 +177,7 @@ module _ {words : List ℕ} {speeds : List Float} {n : ℕ} (ds : List ℕ) (at 
         arith,
         live-held next-laid ∙ (λ j. sumOf (vehiclesIn (live-is j .states)) (at .size j)),
         held-le (at .net) c (sym (case-number at c) ∙ live-sound words speeds s) ds (c .steps)
-            (sym (step-number-from (headIn net) (entryIn net) (segmentIn net) (at .net .each) (c .steps) ds) ∙ accepted),
+            (sym (step-number-from (headIn net) (entryIn net) (segmentIn net) (at .net) (c .steps) ds) ∙ accepted),
       )
 
   -- ---- run count, marks, arrangement number and slots

@@ -5,6 +5,7 @@ use lib.Dec.{ltb, leb, eqb}
 use Rattle.laws.specs.First.{outside, row, first}
 use Rattle.format.specs.Network.{Network, entryOf, segmentOf}
 use Rattle.format.specs.File.{fileNumber, networkOf}
+use Rattle.metanet.specs.Step.{rampAt}
 use Rattle.metanet.specs.Sound.{stepNumber}
 use Rattle.metanet.specs.Start.{startNumber}
 use Rattle.metanet.specs.Change.{signRefused, settingRefused}
@@ -27,10 +28,12 @@ pub record Grounds : Type 0 where
 unfoldable pub itemNumber : Item → Grounds → ℕ
 -- 17; 18
 itemNumber (signed i limit compliance) g = row (segmentMissing (g .network) i) 17 (row (signRefused limit compliance) 18 0)
--- 17; 19 segment 1 or no origin; 20
+-- 17; 19 no segment before it, or no origin; 20
 itemNumber (metered i setting) g =
-    let s = segmentOf (g .network) (i - 1) in
-    row (segmentMissing (g .network) i) 17 (row (eqb i 1 || eqb (s .origin) 0) 19 (row (settingRefused (s .most) setting) 20 0))
+    let w = g .network in
+    row (segmentMissing w i) 17
+    (row (not (rampAt w (i - 1))) 19
+    (row (settingRefused (segmentOf w (i - 1) .most) setting) 20 0))
 -- 13 list length; 15; 16 20,000 steps on the line or run count 1,000,000
 itemNumber (stepped arrivals) g =
     let w = g .network in

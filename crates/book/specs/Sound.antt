@@ -1,5 +1,5 @@
--- A sound study: arrays long enough for the stored n; stored network within rows 4, 6, 7, 8; the live and filled cases sound; run count
--- ≤ 1,000,000; every mark and the arrangement number ones that the arrangement names.
+-- A sound study: arrays long enough for the stored n; stored network within rows 3, 4, 6, 7, 27, 8 and 28; the live and filled cases
+-- sound; run count ≤ 1,000,000; every mark and the arrangement number ones that the arrangement names.
 use Prim.Native.Nat.{ℕ, _+_}
 use mathlib.Core.Bool.{Bool, _||_, not}
 use mathlib.Core.List.{List}

@@ -4,11 +4,12 @@ use metanet::Ramp;
 use metanet::SegmentState;
 use metanet::SignSetting;
 ghost use mathlib.Core.Path.{_≡_};
-ghost use mathlib.Core.Bool.{not, _&&_};
 ghost use Prim.Native.Nat.{_+_, _*_, _<_, _≤_, ℕ};
-ghost use lib.Dec.{eqb};
 ghost use lib.ListN.{length};
 ghost use Rattle.laws.specs.Real.{real};
+ghost use Rattle.format.specs.Words.{headIn, entryIn, segmentIn};
+ghost use Rattle.format.proofs.Accepted.{SegmentsKept};
+ghost use Rattle.metanet.specs.Step.{onRamp};
 ghost use Rattle.metanet.specs.Words.{signIn, rampIn, flowsIn, stateIn};
 ghost use Rattle.laws.specs.Sums.{sumOf};
 ghost use Rattle.metanet.proofs.Ready.{vehiclesAt};
@@ -20,7 +21,7 @@ pub const RUN_WORD: usize = network_words::NETWORK_WORDS;
 
 pub const ARRANGEMENT_WORD: usize = RUN_WORD + 15;
 
-pub const ARRANGEMENT: u64 = 1;
+pub const ARRANGEMENT: u64 = 2;
 
 pub const FIRST_CASE: usize = RUN_WORD + 16;
 
@@ -76,19 +77,15 @@ pub fn state_of(w: &[u64], v: f64) -> SegmentState
     }
 }
 
-// Whether the origin of segment i, counted from 0, is mainstream: it is bounded by speed.
-pub fn is_mainstream(i: usize) -> bool
-    ensures { λ r. ⌜ r ≡ eqb i 0 ⌝ }
+// Whether segment i, counted from 0, of the kept network has a ramp, an origin with a segment before it: a release merges there, and it may
+// be metered.
+pub fn is_on_ramp(kept: &[u64], i: usize) -> bool
+    requires { ⌜ SegmentsKept (now kept) (headIn (now kept)) ⌝ }
+    requires { ⌜ i < headIn (now kept) .size ⌝ }
+    ensures { λ r. ⌜ r ≡ onRamp (headIn (now (kept .entry))) (entryIn (now (kept .entry))) (segmentIn (now (kept .entry))) i ⌝ }
 {
-    i == 0
-}
-
-// Whether segment i, counted from 0, has any other origin, a ramp: a release merges there, and it may be metered.
-pub fn is_on_ramp(origin: u64, i: usize) -> bool
-    ensures { λ r. ⌜ r ≡ (eqb origin 1 && not (eqb i 0)) ⌝ }
-{
-    if origin == 1 {
-        return !is_mainstream(i);
+    if network_words::kept_origin(kept, i) == 1 {
+        return network_words::has_before(kept, i);
     }
     false
 }

@@ -1,18 +1,20 @@
--- The network that is given by its head, entries and segments: what it holds, and that rows 4, 6, 7 and 8 look at nothing else.
+-- The network that is given by its head, entries and segments: what it holds, and that the rows look at nothing else.
 use Prim.Native.Nat.{ℕ, _+_, _<_}
-use mathlib.Core.Bool.{Bool, true, false}
+use mathlib.Core.Bool.{Bool, true, false, _&&_, _||_, not}
 use mathlib.Core.List.{List, []}
 use mathlib.Core.Path.{_≡_, refl, ap, _∙_}
 use native.Mathlib.Omega.{arith}
-use lib.Dec.{ltb, lit<}
+use lib.Dec.{ltb, eqb, lit<}
 use lib.ListN.{length, getD}
 use Rattle.laws.specs.First.{outside, row, first}
 use Rattle.laws.specs.Lists.{table}
+use Rattle.laws.proofs.Tests.{or-left}
 use Rattle.laws.proofs.First.{firstOf-ext}
+use Rattle.laws.proofs.SomeBelow.{some-ext}
 use Rattle.laws.proofs.Lists.{length-table, getD-table, table-of}
 use Rattle.format.specs.declared.Head.{Head}
 use Rattle.format.specs.declared.Segment.{Segment}
-use Rattle.format.specs.Network.{Network, networkFrom, noSegment, entryOf, segmentOf, headBad, rising, curveNumber, segmentBad, fieldThenSpeed, segmentNumber, rowsNumber}
+use Rattle.format.specs.Network.{Network, networkFrom, noSegment, entryOf, segmentOf, versionBad, headBad, rising, curveNumber, segmentBad, offChain, recordRows, goesTo, hasBefore, originNumber, segmentNumber, rowsNumber}
 use Rattle.format.proofs.Accepted.{networkNumber, Formed}
 use Rattle.format.proofs.Rows.{segment-within}
 
@@ -24,26 +26,38 @@ curve-same e f same =
     λ i. row (outside 1000 (same 0 (lit< tt) i) 200000) 6
     (firstOf-ext (rising e) (rising f) 200 (λ j l. λ k. row (ltb (same j (omega arith) k) (same (j + 1) (omega arith) k)) 6 0) i)
 
+-- row 28 looks at the n segments alone
+module _ (n : ℕ) (s t : ℕ → Segment) (segments : (i : ℕ) → i < n → s i ≡ t i) where
+  pub before-same : (i : ℕ) → hasBefore s n i ≡ hasBefore t n i
+  unfolding hasBefore
+  before-same i = some-ext _ _ n (λ k l. ap (λ (x : Segment). goesTo i (x .following)) (segments k l))
+
+  pub origin-same : (i : ℕ) → i < n → originNumber s n i ≡ originNumber t n i
+  unfolding originNumber
+  origin-same i l = λ j. row (eqb (segments i l j .origin) 0 && not (before-same i j)) 28 0
+
 module _ (h : Head) (e f : ℕ → ℕ → ℕ) (s t : ℕ → Segment)
     (entries : (k j : ℕ) → k < h .curves → j < 201 → e k j ≡ f k j) (segments : (i : ℕ) → i < h .size → s i ≡ t i) where
   -- a segment whose curve is not there is refused by row 7
-  speed-same : (i : ℕ) (x : Segment) (bad : Bool) → segmentBad h i x ≡ bad → fieldThenSpeed bad h (e (x .curve) 0) x ≡ fieldThenSpeed bad h (f (x .curve) 0) x
-  unfolding fieldThenSpeed row
+  speed-same : (i : ℕ) (x : Segment) (bad : Bool) → (segmentBad h i x || offChain h i x) ≡ bad → recordRows bad h i (e (x .curve) 0) x ≡ recordRows bad h i (f (x .curve) 0) x
+  unfolding recordRows row
   speed-same i x true b = refl
-  speed-same i x false b = ap (λ (F : ℕ). fieldThenSpeed false h F x) (entries (x .curve) 0 (segment-within h i x b .curve-high) (lit< tt))
+  speed-same i x false b = ap (λ (F : ℕ). recordRows false h i F x) (entries (x .curve) 0 (segment-within h i x (or-left _ _ b) .curve-high) (lit< tt))
 
   segment-same : (i : ℕ) → i < h .size → segmentNumber h e s i ≡ segmentNumber h f t i
   unfolding segmentNumber
   segment-same i l =
-      speed-same i (s i) (segmentBad h i (s i)) refl
-      ∙ ap (λ (x : Segment). fieldThenSpeed (segmentBad h i x) h (f (x .curve) 0) x) (segments i l)
+      speed-same i (s i) (segmentBad h i (s i) || offChain h i (s i)) refl
+      ∙ ap (λ (x : Segment). recordRows (segmentBad h i x || offChain h i x) h i (f (x .curve) 0) x) (segments i l)
 
   pub rows-same : rowsNumber h e s ≡ rowsNumber h f t
   unfolding rowsNumber
   rows-same =
-      λ i. row (headBad h) 4
+      λ i. row (versionBad h) 3
+      (row (headBad h) 4
       (first (firstOf-ext (λ k. curveNumber (e k)) (λ k. curveNumber (f k)) (h .curves) (λ k l. curve-same (e k) (f k) (λ j m. entries k j l m)) i)
-      (firstOf-ext (segmentNumber h e s) (segmentNumber h f t) (h .size) segment-same i))
+      (first (firstOf-ext (segmentNumber h e s) (segmentNumber h f t) (h .size) segment-same i)
+      (firstOf-ext (originNumber s (h .size)) (originNumber t (h .size)) (h .size) (origin-same (h .size) s t segments) i))))
 
 -- ---- what the network holds
 

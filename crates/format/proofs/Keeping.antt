@@ -6,7 +6,7 @@ use lib.ListN.{length}
 use borrow.Author.Tests.{ltb-false}
 use Rattle.laws.proofs.First.{row-passed, row-later}
 use Rattle.format.specs.Network.{rowsNumber}
-use Rattle.format.proofs.Accepted.{Formed, RowsWithin, Kept}
+use Rattle.format.proofs.Accepted.{Formed, RowsWithin, Kept, SegmentsKept}
 use Rattle.format.specs.Words.{headIn, entryIn, segmentIn, networkIn, keptNumber}
 use Rattle.format.proofs.Rows.{rows-within}
 use Rattle.format.proofs.From.{from-formed}
@@ -27,6 +27,10 @@ module _ (ws : List ℕ) where
 
     pub kept-head : Kept ws (headIn ws)
     kept-head = record { within = kept-within .head; long = kept-long }
+
+  -- what its code asks of the segments
+  pub segments-kept : 2560 ≤ length ws → RowsWithin (headIn ws) (entryIn ws) (segmentIn ws) → SegmentsKept ws (headIn ws)
+  segments-kept long w = record { kept = record { within = w .head; long = long }; each = w .each; onward = w .onward; chained = w .chained }
 
   pub kept-formed : Formed (networkIn ws)
   kept-formed = from-formed (headIn ws) (entryIn ws) (segmentIn ws)

@@ -38,6 +38,7 @@ segment-part ws i s e = λ j. record {
   origin = at 5 (omega arith) j;
   exit = at 6 (omega arith) j;
   most = at 7 (omega arith) j;
+  following = record { first = at 8 (omega arith) j; second = at 9 (omega arith) j; share = at 10 (omega arith) j };
 }
   where
     at : (k : ℕ) → k < 16 → getD ws (segmentWord i + k) 0 ≡ getD (segmentWords s) k 0

@@ -1,5 +1,7 @@
 pub mod Accepted
+pub mod Before
 pub mod Broken
+pub mod Chain
 pub mod CurveCall
 pub mod File
 pub mod From
@@ -11,5 +13,6 @@ pub mod Numbers
 pub mod PlaceParts
 pub mod Placed
 pub mod Reading
+pub mod Record
 pub mod RoundTrip
 pub mod Rows

@@ -7,8 +7,9 @@ use Rattle.laws.specs.Lists.{table}
 use Rattle.laws.specs.BigEndian.{byteAt}
 use mathlib.Core.List.{List}
 use lib.ListN.{getD}
-use Rattle.format.specs.File.{mark, headOf, entryOn, recordNumber, fileNumber}
-use Rattle.format.specs.Place.{headRules, entryBad, recordRules, placeOf}
+use Rattle.format.specs.Network.{originNumber}
+use Rattle.format.specs.File.{mark, headOf, entryOn, segmentOn, recordNumber, fileNumber}
+use Rattle.format.specs.Place.{headRules, entryBad, recordRules, followerRules, placeOf}
 
 -- of each byte of the mark whether another stands there
 abbrev pub markRules : List ℕ → List Bool
@@ -24,8 +25,12 @@ pub record Placed (b : List ℕ) : Type 0 where
   -- 6: there is such a curve, and its entry is refused
   pub curve : fileNumber b ≡ 6 → placeOf b .part < headOf b .curves
   pub entry : fileNumber b ≡ 6 → entryBad (entryOn b (placeOf b .part)) (placeOf b .rule) ≡ true
-  -- 7 and 8: there is such a record, and it is refused by this number
+  -- 7, 8, 27 and 28: there is such a segment
   pub segment : 6 < fileNumber b → placeOf b .part < headOf b .size
-  pub refused : 6 < fileNumber b → recordNumber b (headOf b) (placeOf b .part) ≡ fileNumber b
-  -- 7: the rule is broken
+  -- 7, 8 and 27: its record is refused by this number
+  pub refused : 6 < fileNumber b → fileNumber b < 28 → recordNumber b (headOf b) (placeOf b .part) ≡ fileNumber b
+  -- 7 and 27: the rule is broken
   pub field : fileNumber b ≡ 7 → getD (recordRules b (placeOf b .part)) (placeOf b .rule) false ≡ true
+  pub follower : fileNumber b ≡ 27 → getD (followerRules b (placeOf b .part)) (placeOf b .rule) false ≡ true
+  -- 28: this segment is refused
+  pub origin : fileNumber b ≡ 28 → originNumber (segmentOn b) (headOf b .size) (placeOf b .part) ≡ 28

@@ -17,5 +17,5 @@ headValues b =
 abbrev pub recordValues : Segment → ℕ → List ℕ
 recordValues s byte =
     s .metres ∷ s .lanes ∷ s .curve ∷ s .critical ∷ s .critical ∷ s .jam ∷ s .origin ∷ s .origin ∷ s .exit ∷ s .exit ∷ s .most ∷ s .most
-    ∷ byte ∷ byte ∷ byte
+    ∷ byte ∷ byte ∷ byte ∷ s .following .share ∷ s .following .share
     ∷ []

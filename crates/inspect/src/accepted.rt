@@ -1,10 +1,16 @@
 // What an accepted file holds.
+use crate::followers;
 use crate::print;
 use crate::record;
 use arrays::number;
 
+// The version is told where it is not 1, the chain.
 fn head(h: format::Head) {
-    print::told(b"accepted: T ", h.step, b" s");
+    print::say(b"accepted: ");
+    if h.version != 1 {
+        print::told(b"version ", h.version, b", ");
+    }
+    print::told(b"T ", h.step, b" s");
     print::told(b", n ", h.size, b"");
     print::told(b", curves ", h.curves, b"");
     print::told(b", tau ", h.tau, b" s");
@@ -23,6 +29,7 @@ fn ramps(s: format::Segment) {
 }
 
 fn segment(file: &[u8], i: u32) {
+    let h = network::head_of(file);
     let s = network::segment_of(file, i);
     record::which(i);
     print::told(b": ", s.metres, b" m");
@@ -31,6 +38,9 @@ fn segment(file: &[u8], i: u32) {
     print::told(b", C ", s.critical, b"");
     print::told(b", J ", s.jam, b"");
     ramps(s);
+    if h.version != 1 {
+        followers::summary(s.following);
+    }
     print::say(b"\n");
 }
 

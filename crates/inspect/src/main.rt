@@ -3,6 +3,7 @@
 mod print; // print.rt: words and numbers on standard output
 mod head; // head.rt: the fields of the head and their ranges
 mod record; // record.rt: the fields of a record and their ranges
+mod followers; // followers.rt: what follows a segment
 mod refused; // refused.rt: what refuses a file, and where
 mod accepted; // accepted.rt: what an accepted file holds
 

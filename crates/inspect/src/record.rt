@@ -14,7 +14,17 @@ fn name(rule: u64) {
         6 | 7 => print::say(b"origin"),
         8 | 9 => print::say(b"exit share X"),
         10 | 11 => print::say(b"most released Q"),
+        15 | 16 => print::say(b"share to the first following segment"),
         _ => print::say(b"a byte that must be zero"),
+    }
+}
+
+// In version 1 the last segment alone has none that follows.
+fn no_exit(h: format::Head) {
+    if h.version == 1 {
+        print::say(b"0 at the last segment");
+    } else {
+        print::say(b"0 with no following segment");
     }
 }
 
@@ -29,9 +39,11 @@ fn right(h: format::Head, s: format::Segment, rule: u64) {
         6 => print::say(b"0 or 1"),
         7 => print::say(b"1 at the first segment"),
         8 => print::say(b"0 to 1000"),
-        9 => print::say(b"0 at the last segment"),
+        9 => no_exit(h),
         10 => print::say(b"0 without an origin"),
         11 => print::say(b"1 to 300000 with an origin"),
+        15 => print::say(b"0 to 1000"),
+        16 => print::say(b"1000 without a second"),
         _ => print::say(b"0"),
     }
 }
@@ -40,6 +52,7 @@ fn right(h: format::Head, s: format::Segment, rule: u64) {
 fn value(s: format::Segment, byte: u64, rule: u64) -> u64
     ensures { λ r. ⌜ r ≡ getD (recordValues s byte) rule 0 ⌝ }
 {
+    let f = s.following;
     let values = [
         s.metres,
         s.lanes,
@@ -56,8 +69,10 @@ fn value(s: format::Segment, byte: u64, rule: u64) -> u64
         byte,
         byte,
         byte,
+        f.share,
+        f.share,
     ];
-    if rule < 15 {
+    if rule < 17 {
         return values[rule as usize];
     }
     0

@@ -1,4 +1,5 @@
 // What refuses a file, and where.
+use crate::followers;
 use crate::head;
 use crate::print;
 use crate::record;
@@ -19,7 +20,7 @@ fn mark(file: &[u8], at: u64) {
 fn version(file: &[u8]) {
     let high = number::byte_at(file, 3);
     let low = number::byte_at(file, 4);
-    print::told(b"version: ", high * 256 + low, b", must be 1");
+    print::told(b"version: ", high * 256 + low, b", must be 1 or 2");
 }
 
 fn length(file: &[u8]) {
@@ -29,9 +30,17 @@ fn length(file: &[u8]) {
     if 65535 < file.len() {
         print::say(b" or more");
     }
-    print::told(b", must be ", 16 + 804 * c + 16 * n, b", as the head says");
+    print::told(
+        b", must be ",
+        network::size_said(file),
+        b", as the head says",
+    );
     print::told(b" with ", c, b" curves");
     print::told(b" and ", n, b" segments");
+    let h = network::head_of(file);
+    if h.version != 1 {
+        print::told(b" in version ", h.version, b"");
+    }
 }
 
 // Entry j of curve k, of which there are 201, and 0 past them.
@@ -95,7 +104,9 @@ fn what(file: &[u8], p: format::Place) {
             p.rule,
             number::byte_at(file, p.offset as usize),
         ),
-        _ => speed(file, p.part),
+        8 => speed(file, p.part),
+        27 => followers::tell(file, p.part, p.rule, p.offset),
+        _ => followers::tell_origin(file, p.part),
     }
 }
 

@@ -1,5 +1,5 @@
 -- No mv is made or lost in a step, and the new figures are within 10¹² where all mv are. For any number of segments.
-use Prim.Native.Nat.{ℕ, zero, suc, _+_, _≤_, _<_}
+use Prim.Native.Nat.{ℕ, _+_, _≤_, _<_}
 use native.Mathlib.Omega.{arith}
 use mathlib.Core.Path.{_≡_, refl, ap}
 use mathlib.Core.List.{List}
@@ -12,10 +12,11 @@ use Rattle.format.specs.declared.Segment.{Segment}
 use Rattle.metanet.specs.declared.SegmentState.{SegmentState}
 use Rattle.metanet.specs.Case.{noState, stateOf}
 use Rattle.metanet.specs.Speed.{newSpeed}
-use Rattle.metanet.specs.Step.{newState, outflowNow, through, inflow, freeSpeed, neighbours, stepState, stepStates, exitNow, exitsNow, vehiclesIn}
+use Rattle.metanet.specs.Step.{newState, releaseNow, outflowNow, through, inflow, freeSpeed, firstWay, secondWay, restAt, firstAt, secondAt, neighbours, stepState, stepStates, exitNow, exitsNow, vehiclesIn}
 use Rattle.metanet.specs.Sound.{mvMost}
 use Rattle.metanet.proofs.Ready.{SegmentOk, StateOk}
 use Rattle.metanet.proofs.SegmentLaws.{Within, keep-within, rate-high, release-waits, release-at-most-rate, outflow-at-most-count, exit-le}
+use Rattle.metanet.proofs.Sending.{Moves, thousandths, queues-balance}
 use Rattle.metanet.specs.declared.Flows.{Flows}
 
 -- the figures of a state that are mv
@@ -49,29 +50,31 @@ module _ (h : Head) (entry : ℕ → ℕ → ℕ) (segment : ℕ → Segment) (s
   unfolding stepState newState newSpeed
   new-within i l = rw (new-is i l) (keep-within (freeSpeed h entry segment i) (ok i l .slow) (ok i l .fast) _)
 
-  -- one segment: what is there after, with what flows out, is what was there before, with what came
-  one : (i : ℕ) → i < h .size → new i .count + new i .queue + out i ≡ vehiclesIn states i + getD ds i 0 + inflow h entry segment states i
+  -- a step moves vehicles: outflow is the exit part and what goes on to the two numbers
+  moves : Moves (firstWay h entry segment) (secondWay h entry segment) (h .size) (λ i. stateOf states i .count)
+      (λ i. releaseNow (segment i) (stateOf states i) t (getD ds i 0) (bound i)) out (exitNow h entry segment states) (firstAt h entry segment states)
+      (secondAt h entry segment states) (λ i. new i .count)
+  unfolding stepState newState inflow through
+  moves =
+      record {
+        enough = λ i l. outflow-at-most-count (ok i l) (row i l);
+        splits = λ i l. omega (arith, exit-le (out i) (segment i .exit) (ok i l .exit-high), thousandths (restAt h entry segment states i) (segment i .following .share) (ok i l .share-high));
+        becomes = λ i l. refl;
+      }
+
+  -- all segments: what is there after and what leaves is what was there before and came
+  all-balance : sumOf (λ i. new i .count + new i .queue) (h .size) + exitsNow h entry segment states ≡ sumOf (vehiclesIn states) (h .size) + sumOf (λ i. getD ds i 0) (h .size)
   unfolding stepState newState
-  one i l = omega (arith, release-waits (ok i l) (row i l) t (getD ds i 0) (bound i), outflow-at-most-count (ok i l) (row i l))
-
-  -- outflow is the exit part and what passes on
-  split : (i : ℕ) → i < h .size → exitNow h entry segment states i + inflow h entry segment states (suc i) ≡ out i
-  unfolding inflow through
-  split i l = omega (arith, exit-le (out i) (segment i .exit) (ok i l .exit-high))
-
-  -- all segments below k
-  below : (k : ℕ) → k ≤ h .size
-      → sumOf (λ i. new i .count + new i .queue) k + sumOf (exitNow h entry segment states) k + inflow h entry segment states k ≡ sumOf (vehiclesIn states) k + sumOf (λ i. getD ds i 0) k
-  unfolding sumOf
-  below zero l = unfold inflow in refl
-  below (suc k) l = omega (arith, below k (omega arith), one k l, split k l)
+  all-balance =
+      queues-balance moves (λ i. stateOf states i .queue) (λ i. getD ds i 0) (λ i. new i .queue) (λ i l. ok i l .first-high) (λ i l. ok i l .second-high)
+      (λ i l. omega (arith, release-waits (ok i l) (row i l) t (getD ds i 0) (bound i)))
 
   held-new : sumOf (vehiclesIn (stepStates h entry segment states t ds)) (h .size) ≡ sumOf (λ i. new i .count + new i .queue) (h .size)
   held-new = sum-ext _ (λ i. new i .count + new i .queue) (h .size) (λ i l. ap (λ (r : SegmentState). r .count + r .queue) (new-is i l))
 
   -- total after + let out ≡ total before + arrivals
   pub balance : sumOf (vehiclesIn (stepStates h entry segment states t ds)) (h .size) + exitsNow h entry segment states ≡ sumOf (vehiclesIn states) (h .size) + sumOf (λ i. getD ds i 0) (h .size)
-  balance = omega (arith, held-new, below (h .size) (omega arith))
+  balance = omega (arith, held-new, all-balance)
 
   abbrev held : ℕ
   held = sumOf (vehiclesIn (stepStates h entry segment states t ds)) (h .size)

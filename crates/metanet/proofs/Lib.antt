@@ -2,7 +2,9 @@ pub mod Balance
 pub mod CaseLaws
 pub mod CaseParts
 pub mod CaseSound
+pub mod Chain
 pub mod Put
+pub mod Entries
 pub mod FlowLaws
 pub mod Formed
 pub mod Good
@@ -19,9 +21,11 @@ pub mod SameNetwork
 pub mod SegmentLaws
 pub mod SoundLaws
 pub mod SpeedBound
+pub mod Sending
 pub mod StateWords
 pub mod Statements
 pub mod StepSound
 pub mod Turns
+pub mod Joins
 pub mod Worked
 pub mod Written

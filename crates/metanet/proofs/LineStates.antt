@@ -9,7 +9,7 @@ use lib.Dec.{eqb}
 use lib.IntN.{ℤ, pos, negsuc}
 use lib.ListN.{length, set, length-set}
 use lib.Seq.{getD-set-same, getD-set-other}
-use borrow.Author.Tests.{ltb-false, eqb-true, eqb-false, le-ltb, eq-eqb, ne-eqb}
+use borrow.Author.Tests.{ltb-false, eqb-true, eqb-false, le-ltb, eq-eqb, ne-eqb, not-false}
 use Rattle.laws.specs.First.{anyOf, outside}
 use Rattle.laws.proofs.Sums.{sum-ext}
 use Rattle.laws.proofs.Tests.{or-left, or-right, anyOf-false, inside, inside-low, inside-high}
@@ -17,7 +17,7 @@ use Rattle.format.specs.declared.Segment.{Segment}
 use Rattle.format.specs.Network.{Network, entryOf, segmentOf}
 use Rattle.metanet.specs.declared.SegmentState.{SegmentState}
 use Rattle.metanet.specs.Case.{Case, noState, stateOf}
-use Rattle.metanet.specs.Step.{vehiclesIn, freeSpeed, onRamp, totalOf}
+use Rattle.metanet.specs.Step.{vehiclesIn, freeSpeed, onRamp, rampAt, totalOf}
 use Rattle.metanet.specs.Sound.{signBad, settingBad}
 use Rattle.metanet.specs.declared.Setting.{Setting}
 use Rattle.metanet.specs.declared.Setting.the-variants.{Open, Fixed, Alinea}
@@ -25,7 +25,7 @@ use Rattle.metanet.specs.Change.{complianceBad, complianceWord, signRefu
 use Rattle.metanet.specs.Line.{Item, metered, Line, change, caseOf, itemSteps, handedIn, letOut, signed}
 use Rattle.metanet.proofs.Good.{Good}
 use Rattle.metanet.proofs.CaseSound.{StateSound, SoundAt, case-state}
-use Rattle.metanet.proofs.Lines.{net-within, good-more}
+use Rattle.metanet.proofs.Lines.{good-more}
 
 -- ---- the states with r at place k: what holds of r there and of every state holds of every state afterwards
 
@@ -141,19 +141,10 @@ module _ {w : Network} {s : Case} {l : Line} (g : Good w s l) (i : ℕ) (there :
       good-state g (i - 1) (signedState limit compliance (stateOf (caseOf w s l .states) (i - 1))) in-network refl (signed-sound (old-state g (i - 1) in-network) limit compliance e)
       (signed i limit compliance) refl refl refl refl
 
-  -- an origin past segment 1
-  may-meter : (eqb i 1 || eqb (segmentOf w (i - 1) .origin) 0) ≡ false → onRamp (w .head) (entryOf w) (segmentOf w) (i - 1) ≡ true
-  may-meter e =
-      let none = eqb-false (segmentOf w (i - 1) .origin) 0 (or-right (eqb i 1) _ e) in
-      let later = eqb-false i 1 (or-left (eqb i 1) _ e) in
-      let origin : segmentOf w (i - 1) .origin ≡ 1 = omega (arith, none, net-within (g .net) .each (i - 1) in-network .origin-high) in
-      let past : (i - 1 ≡ 0 → ⊥) = λ z. omega (arith, z, later, inside-low 1 i (w .head .size) there) in
-      λ j. eq-eqb (segmentOf w (i - 1) .origin) 1 origin j && not (ne-eqb (i - 1) 0 past j)
-
-  pub good-meter : (setting : Setting) → (eqb i 1 || eqb (segmentOf w (i - 1) .origin) 0) ≡ false → settingRefused (segmentOf w (i - 1) .most) setting ≡ false
+  pub good-meter : (setting : Setting) → not (rampAt w (i - 1)) ≡ false → settingRefused (segmentOf w (i - 1) .most) setting ≡ false
       → Good w s (l ++ (metered i setting ∷ []))
   unfolding change handedIn letOut
   good-meter setting may e =
       good-state g (i - 1) (meteredState (segmentOf w (i - 1) .most) setting (stateOf (caseOf w s l .states) (i - 1))) in-network refl
-      (metered-sound (old-state g (i - 1) in-network) setting (may-meter may) e)
+      (metered-sound (old-state g (i - 1) in-network) setting (not-false _ may) e)
       (metered i setting) refl refl refl refl

@@ -34,7 +34,7 @@ unfolding exitsOf caseOf
 exitsOf-snoc w s [] i = omega arith
 exitsOf-snoc w s (j ∷ l) i = omega (arith, exitsOf-snoc w (change w s j) l i)
 
--- ---- a good network is within rows 4, 6, 7 and 8
+-- ---- a good network is within the rows
 
 pub net-within : {w : Network} → GoodNetwork w → RowsWithin (w .head) (entryOf w) (segmentOf w)
 net-within {w = w} g = rows-within (w .head) (entryOf w) (segmentOf w) (g .within)

@@ -24,7 +24,7 @@ module _ {words : List ℕ} {speeds : List Float} {ds : List ℕ} {at from n : �
 
   -- on the network's list of curves and segments as on its words
   pub step-on-words : (c : Case) → stepCase (networkIn net) c ds ≡ stepOn (headIn net) (entryIn net) (segmentIn net) c ds
-  step-on-words c = step-from (headIn net) (entryIn net) (segmentIn net) (ok .net .each) c ds
+  step-on-words c = step-from (headIn net) (entryIn net) (segmentIn net) (ok .net) c ds
 
 pub steps-the-case : StepsTheCase
 steps-the-case words speeds ds at from n ok tot = case-back ok tot ∙ sym (step-on-words ok (caseIn words speeds at from n))

@@ -4,12 +4,12 @@ use mathlib.Core.Path.{_≡_, refl, sym, ap, _∙_, subst}
 use mathlib.Core.Bool.{Bool, true, false, cond, not, _||_, true≢false}
 use mathlib.Core.List.{List}
 use native.Mathlib.Omega.{arith}
-use native.Mathlib.Nat.{add-zero, le-of-eq}
+use native.Mathlib.Nat.{add-zero, le-of-eq, pos-of-ne-zero}
 use lib.Seq.{getD-drop}
 use lib.Dec.{T, ltb, eqb}
 use lib.ListN.{length, getD}
 use lib.Ieee.{Float, le}
-use borrow.Author.Tests.{ltb-false, eqb-true, not-false}
+use borrow.Author.Tests.{ltb-false, eqb-true, eqb-false, not-false}
 use Rattle.laws.specs.First.{outside, row, first, firstOf}
 use Rattle.laws.specs.Real.{real}
 use Rattle.laws.specs.Sums.{sumOf}
@@ -22,7 +22,7 @@ use Rattle.format.specs.declared.Segment.{Segment}
 use Rattle.metanet.specs.declared.SignSetting.{SignSetting}
 use Rattle.metanet.specs.declared.Ramp.{Ramp}
 use Rattle.metanet.specs.declared.SegmentState.{SegmentState}
-use Rattle.metanet.specs.Case.{noState, stateOf, alineaKind}
+use Rattle.metanet.specs.Case.{noState, stateOf, openKind, alineaKind}
 use Rattle.metanet.specs.Step.{vehiclesIn, freeSpeed, onRamp}
 use Rattle.metanet.specs.Words.{netOf, stateIn, stateAt, statesIn, caseIn}
 use Rattle.metanet.proofs.Ready.{SignOk, RampOk, StateOk, CaseAt, Ready, TotalsOk, vehiclesAt}
@@ -213,3 +213,12 @@ module _ {words : List ℕ} {speeds : List Float} {at from n : ℕ} (at-place : 
             state = case-state;
             arrival = arrival;
           }
+
+-- whether a segment may be metered shows only where its ramp is not open
+pub meter-same : (m k : Bool) (s : Segment) (f : ℕ) (r : SegmentState) → (0 < r .ramp .kind → m ≡ k) → stateBad m s f r ≡ stateBad k s f r
+unfolding stateBad settingBad
+meter-same m k s f r e = go (eqb (r .ramp .kind) openKind) refl
+  where
+    go : (t : Bool) → eqb (r .ramp .kind) openKind ≡ t → stateBad m s f r ≡ stateBad k s f r
+    go true q = simp q
+    go false q = ap (λ (x : Bool). stateBad x s f r) (e (pos-of-ne-zero (eqb-false _ _ q)))

@@ -2,7 +2,7 @@
 use Prim.Native.Nat.{ℕ}
 use mathlib.Core.Path.{_≡_, refl, ap, _∙_}
 use mathlib.Core.List.{List, [], _∷_, _++_, map}
-use lib.Ieee.{add, sub, mul, div, lt, le, ofInt, toUnsigned, toBits}
+use lib.Ieee.{add, sub, mul, div, lt, le, eq, ofInt, toUnsigned, toBits}
 use Rattle.laws.specs.Sums.{sumOf}
 use Rattle.laws.specs.Lists.{table}
 use Rattle.format.specs.Network.{Network}
@@ -13,7 +13,8 @@ use Rattle.metanet.specs.Step.{signOf, rateOf, stepOn}
 use Rattle.metanet.specs.Start.{startState, startCase}
 use Rattle.metanet.specs.Line.{Line, change, caseOf}
 use Rattle.metanet.specs.Report.{caseFigures, segmentFigures}
-use Rattle.metanet.specs.Worked.{WorkedStep, WorkedHolds, givenFigures, allFigures, figuresAlong, startCaseOf, chain}
+use Rattle.metanet.specs.Worked.{WorkedStep, WorkedHolds, givenFigures, allFigures, figuresAlong, startCaseOf, WorkedList, chainList}
+use Rattle.metanet.specs.WorkedJunction.{junctionList}
 
 -- ---- carried on from case to case
 
@@ -34,12 +35,15 @@ along-carried w s l (k ∷ ks) =
     let e = caseOf-append w s l (k .items) in
     λ i. allFigures w (e i) ∷ (along-carried w s (l ++ k .items) ks ∙ ap (λ (d : Case). carried w d ks) e) i
 
--- ---- the chain
-
-chain-carried : carried (chain .network) (startCaseOf chain) (chain .steps) ≡ map givenFigures (chain .steps)
-unfolding carried chain startCase startState caseOf change caseFigures segmentFigures stepOn newSpeed keep signOf rateOf alineaRate table sumOf add sub mul div lt le ofInt toUnsigned toBits
-chain-carried = refl
-
-pub chain-holds : WorkedHolds chain
+-- so a list holds where its figures, carried on, are those that it gives
+worked : (l : WorkedList) → carried (l .network) (startCaseOf l) (l .steps) ≡ map givenFigures (l .steps) → WorkedHolds l
 unfolding caseOf
-chain-holds = along-carried (chain .network) (startCaseOf chain) [] (chain .steps) ∙ chain-carried
+worked l e = along-carried (l .network) (startCaseOf l) [] (l .steps) ∙ e
+
+pub chain-holds : WorkedHolds chainList
+unfolding carried chainList startCase startState caseOf change caseFigures segmentFigures stepOn newSpeed keep signOf rateOf alineaRate table sumOf add sub mul div lt le ofInt toUnsigned toBits
+chain-holds = worked chainList refl
+
+pub junction-holds : WorkedHolds junctionList
+unfolding carried junctionList startCase startState caseOf change caseFigures segmentFigures stepOn newSpeed keep signOf rateOf alineaRate table sumOf add sub mul div lt le eq ofInt toUnsigned toBits
+junction-holds = worked junctionList refl

@@ -1,6 +1,7 @@
 pub mod Case
 pub mod Flow
 pub mod Speed
+pub mod Junction
 pub mod Step
 pub mod Start
 pub mod Change
@@ -9,4 +10,6 @@ pub mod Report
 pub mod Words
 pub mod Sound
 pub mod Marked
+pub mod Chain
 pub mod Worked
+pub mod WorkedJunction

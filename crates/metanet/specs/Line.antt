@@ -49,7 +49,7 @@ unfolding handedIn
 arrivalsOf w [] = 0
 arrivalsOf w (i ∷ l) = handedIn w i + arrivalsOf w l
 
--- exits are the sum, over its steps, of all exit parts and of what leaves after segment n
+-- exits are the sum, over its steps, of all exit parts and of what is passed on to none
 unfoldable pub letOut : Network → Case → Item → ℕ
 letOut w c = elim [ signed i limit compliance ↦ 0 | metered i setting ↦ 0 | stepped arrivals ↦ exitsNow (w .head) (entryOf w) (segmentOf w) (c .states) ]
 

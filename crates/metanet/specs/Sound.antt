@@ -58,7 +58,7 @@ alineaBad most r =
     ∷ outside (r .least) (r .rate) most
     ∷ [])
 
--- only an origin past segment 1 is metered: m says whether segment i is one. Every code is one that the arrangement names
+-- only an origin with a segment before it is metered: m says whether segment i has one. Every code is one that the arrangement names
 unfoldable pub settingBad : Bool → ℕ → Ramp → Bool
 unfolding openBad fixedBad alineaBad
 settingBad m most r =

@@ -1,6 +1,6 @@
 -- One step of a case. Every right side uses values from before the step, save the rates, releases and flows that this step itself
 -- makes. Differences are of natural numbers: in a sound case none would be below 0 (release ≤ w + d, exit part ≤ outflow ≤ N).
-use Prim.Native.Nat.{ℕ, zero, suc, _+_, _-_, _*_, _%_}
+use Prim.Native.Nat.{ℕ, suc, _+_, _-_, _*_, _%_}
 use mathlib.Core.Bool.{Bool, cond, not, _&&_}
 use mathlib.Core.List.{List}
 use lib.ListN.{getD}
@@ -11,17 +11,19 @@ use Rattle.laws.specs.Sums.{sumOf}
 use Rattle.laws.specs.Real.{real, _⊘_}
 use Rattle.format.specs.declared.Head.{Head}
 use Rattle.format.specs.declared.Segment.{Segment}
-use Rattle.format.specs.Network.{Network, entryOf, segmentOf}
+use Rattle.format.specs.Network.{Network, entryOf, segmentOf, hasBefore}
 use Rattle.metanet.specs.declared.SignSetting.{SignSetting}
 use Rattle.metanet.specs.declared.Ramp.{Ramp}
 use Rattle.metanet.specs.declared.Flows.{Flows}
 use Rattle.metanet.specs.declared.SegmentState.{SegmentState}
+use Rattle.metanet.specs.declared.Entry.{Entry}
 use Rattle.metanet.specs.declared.Neighbours.{Neighbours}
 use Rattle.metanet.specs.declared.Sign.{Sign}
 use Rattle.metanet.specs.declared.Sign.the-variants.{Dark, Shown}
 use Rattle.metanet.specs.Case.{Case, openKind, alineaKind, stateOf}
 use Rattle.metanet.specs.Flow.{alineaRate, jamBound, signSpeed, limitingSpeed, speedBound, releaseOf, outflowOf, exitPart}
 use Rattle.metanet.specs.Speed.{area, curveSpeed, underSign, newSpeed}
+use Rattle.metanet.specs.Junction.{toFirst, toSecond, reaching, gathered, entrySpeed, twoAfter, densityAhead}
 
 -- ---- one segment, from its own state
 
@@ -80,7 +82,7 @@ unfoldable pub flowsNow : Head → Segment → SegmentState → ℕ → ℕ → 
 unfolding releaseNow outflowNow
 flowsNow h s r t d bound = record { outflow = outflowNow h s r; release = releaseNow s r t d bound }
 
--- all the rest enters the next segment, or leaves after segment n
+-- all the rest goes on
 unfoldable pub through : Head → Segment → SegmentState → ℕ
 unfolding outflowNow
 through h s r = outflowNow h s r - exitPart (outflowNow h s r) (s .exit)
@@ -90,7 +92,7 @@ unfoldable pub newState : Head → Segment → ℕ → SegmentState → ℕ → 
 unfolding density rampNow flowsNow
 newState h s f r t d onRamp o =
     record {
-      -- 4. N + release + what the segment before passes on − outflow
+      -- 4. N + release + what the segments before pass on − outflow
       count = r .count + releaseNow s r t d (o .bound) + o .passed - outflowNow h s r;
       -- w + d − release
       queue = r .queue + d - releaseNow s r t d (o .bound);
@@ -105,11 +107,6 @@ newState h s f r t d onRamp o =
 
 -- ---- all segments, from their states
 
--- u is v of the segment before, v itself at segment 1
-unfoldable pub upstream : List SegmentState → ℕ → Float
-upstream states zero = stateOf states 0 .speed
-upstream states (suc i) = stateOf states i .speed
-
 -- mv in a segment and its queue
 abbrev pub vehiclesIn : List SegmentState → ℕ → ℕ
 vehiclesIn states i = stateOf states i .count + stateOf states i .queue
@@ -121,27 +118,62 @@ module _ (h : Head) (entry : ℕ → ℕ → ℕ) (segment : ℕ → Segment) wh
   abbrev pub freeSpeed : ℕ → ℕ
   freeSpeed i = entry (segment i .curve) 0
 
-  -- what the segment before passes on; past the last segment, what leaves there
-  unfoldable pub inflow : List SegmentState → ℕ → ℕ
-  unfolding through
-  inflow states zero = 0
-  inflow states (suc i) = through h (segment i) (stateOf states i)
+  -- the two numbers that segment i goes on to, and what of its rest goes to each
+  abbrev pub firstWay : ℕ → ℕ
+  firstWay i = segment i .following .first
 
-  -- ρ' is the density of the next segment; at segment n it is ρ if N < C × G, else C
+  abbrev pub secondWay : ℕ → ℕ
+  secondWay i = segment i .following .second
+
+  abbrev pub outAt : List SegmentState → ℕ → ℕ
+  outAt states i = outflowNow h (segment i) (stateOf states i)
+
+  abbrev pub restAt : List SegmentState → ℕ → ℕ
+  restAt states i = through h (segment i) (stateOf states i)
+
+  abbrev pub firstAt : List SegmentState → ℕ → ℕ
+  firstAt states i = toFirst (restAt states i) (segment i .following .share)
+
+  abbrev pub secondAt : List SegmentState → ℕ → ℕ
+  secondAt states i = toSecond (restAt states i) (segment i .following .share)
+
+  -- all that enters number d from the segments below k
+  abbrev pub entering : List SegmentState → ℕ → ℕ → Entry
+  entering states d k = gathered firstWay secondWay (firstAt states) (secondAt states) (outAt states) (λ i. stateOf states i .speed) d k
+
+  -- what is passed on to number d: one sum over all segments
+  abbrev pub passedTo : List SegmentState → ℕ → ℕ
+  passedTo states d = reaching firstWay secondWay (firstAt states) (secondAt states) (h .size) d
+
+  -- what enters segment i
+  unfoldable pub inflow : List SegmentState → ℕ → ℕ
+  unfolding through reaching
+  inflow states i = passedTo states (suc i)
+
+  -- u
+  unfoldable pub upstream : List SegmentState → ℕ → Float
+  unfolding through gathered entrySpeed
+  upstream states i = entrySpeed (entering states (suc i) (h .size)) (stateOf states i .speed)
+
+  -- the density of number k
+  abbrev pub densityAt : List SegmentState → ℕ → Float
+  densityAt states k = density (segment (k - 1)) (stateOf states (k - 1))
+
+  -- ρ'; with no follower it is ρ if N < C × G, else C
   unfoldable pub downstream : List SegmentState → ℕ → Float
   unfolding density
   downstream states i =
-      cond (ltb (i + 1) (h .size))
-      (density (segment (i + 1)) (stateOf states (i + 1)))
+      densityAhead (segment i .following)
       (cond (ltb (stateOf states i .count) (segment i .critical * area (segment i))) (density (segment i) (stateOf states i)) (real (segment i .critical)))
+      (densityAt states)
 
-  -- the origin of segment 1 is mainstream, any other is a ramp
+  -- the origin of a segment with none before it is mainstream, any other is a ramp
   abbrev pub mainstream : ℕ → Bool
-  mainstream i = eqb i 0
+  mainstream i = not (hasBefore segment (h .size) i)
 
   -- E only at a ramp
   abbrev pub onRamp : ℕ → Bool
-  onRamp i = eqb (segment i .origin) 1 && not (mainstream i)
+  onRamp i = eqb (segment i .origin) 1 && hasBefore segment (h .size) i
 
   abbrev pub neighbours : List SegmentState → ℕ → Neighbours
   neighbours states i =
@@ -168,13 +200,13 @@ module _ (h : Head) (entry : ℕ → ℕ → ℕ) (segment : ℕ → Segment) wh
   abbrev pub exitNow : List SegmentState → ℕ → ℕ
   exitNow states i = exitPart (outflowNow h (segment i) (stateOf states i)) (segment i .exit)
 
-  -- all exit parts, and what leaves after segment n
+  -- all exit parts, and what is passed on to none
   abbrev pub exitsNow : List SegmentState → ℕ
-  exitsNow states = sumOf (exitNow states) (h .size) + inflow states (h .size)
+  exitsNow states = sumOf (exitNow states) (h .size) + passedTo states 0
 
   -- 6. time spent grows by T × (mv in segments + queues before the step); arrivals and exits add up
   unfoldable pub stepOn : Case → List ℕ → Case
-  unfolding stepStates sumOf inflow outflowNow
+  unfolding stepStates sumOf inflow outflowNow through reaching twoAfter densityAhead hasBefore
   stepOn c ds =
       record {
         states = stepStates (c .states) (c .steps) ds;
@@ -187,6 +219,10 @@ module _ (h : Head) (entry : ℕ → ℕ → ℕ) (segment : ℕ → Segment) wh
 -- one step of a case on a network
 abbrev pub stepCase : Network → Case → List ℕ → Case
 stepCase w = stepOn (w .head) (entryOf w) (segmentOf w)
+
+-- segment i of a network has a ramp
+abbrev pub rampAt : Network → ℕ → Bool
+rampAt w = onRamp (w .head) (entryOf w) (segmentOf w)
 
 -- mv in segments and queues
 abbrev pub totalOf : Network → Case → ℕ

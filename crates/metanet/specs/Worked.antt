@@ -5,7 +5,7 @@ use mathlib.Core.List.{List, [], _∷_, _++_, map}
 use lib.IntN.{pos, negℤ}
 use Rattle.laws.specs.Lists.{table}
 use Rattle.format.specs.declared.Segment.{Segment}
-use Rattle.format.specs.Network.{Network}
+use Rattle.format.specs.Network.{Network, chain}
 use Rattle.metanet.specs.declared.Setting.the-variants.{Fixed, Alinea}
 use Rattle.metanet.specs.Case.{Case}
 use Rattle.metanet.specs.Line.{signed, metered, stepped, Line, caseOf}
@@ -52,21 +52,22 @@ WorkedHolds l = figuresAlong (l .network) (startCaseOf l) [] (l .steps) ≡ map 
 
 -- ---- a chain of three segments: T 10, τ 18, ν 60, κ 40, δ 122; one curve, entry j is 100,000 − 450 j
 
--- L, X and Q; two lanes, C 30, J 180, an origin
-abbrev pub twoLanes : ℕ → ℕ → ℕ → Segment
-twoLanes L X Q = record { metres = L; lanes = 2; curve = 0; critical = 30; jam = 180; origin = 1; exit = X; most = Q }
+-- L, X and Q; two lanes, C 30, J 180, an origin; segment i of the chain
+abbrev pub twoLanes : ℕ → ℕ → ℕ → ℕ → Segment
+twoLanes L X Q i = record { metres = L; lanes = 2; curve = 0; critical = 30; jam = 180; origin = 1; exit = X; most = Q; following = chain 3 i }
 
 abbrev pub chainNetwork : Network
 chainNetwork =
     record {
-      head = record { step = 10; size = 3; curves = 1; tau = 18; nu = 60; kappa = 40; delta = 122 };
+      head = record { version = 1; step = 10; size = 3; curves = 1; tau = 18; nu = 60; kappa = 40; delta = 122 };
       curves = table (λ j. 100000 - 450 * j) 201 ∷ [];
-      segments = twoLanes 500 0 30000 ∷ twoLanes 800 150 60000 ∷ twoLanes 600 0 30000 ∷ [];
+      segments = twoLanes 500 0 30000 0 ∷ twoLanes 800 150 60000 1 ∷ twoLanes 600 0 30000 2 ∷ [];
     }
 
 -- signs that bind, ALINEA, a fixed rate, an off-ramp, merging, the jam bound; the bound by speed from s, from a sign, and none
-unfoldable pub chain : WorkedList
-chain =
+unfoldable pub chainList : WorkedList
+unfolding chain
+chainList =
     record {
       network = chainNetwork;
       mvs = 120000 ∷ 54943 ∷ 40520 ∷ [];

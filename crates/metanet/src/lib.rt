@@ -32,8 +32,18 @@ pub struct SegmentState {
     pub speed: f64,
 }
 
-// What a step of one segment goes by beside its state: what the segment before passes on and its speed u, the density ρ' of the next
-// one, the desired speed V, and the most mv that its origin lets in.
+// What enters a segment: the mv passed on to it, the outflows of the segments that enter it, the sum of their outflow × v, how many
+// they are, and v of the last of them.
+pub struct Entry {
+    pub passed: u64,
+    pub outflows: u64,
+    pub weighted: f64,
+    pub segments: u64,
+    pub last: f64,
+}
+
+// What a step of one segment goes by beside its state: the mv passed on to it, the speed u at which vehicles enter, the density ρ'
+// ahead, the desired speed V, and the most mv that its origin lets in.
 pub struct Neighbours {
     pub passed: u64,
     pub before: f64,

@@ -1,5 +1,7 @@
-// All segments of a case, in place and in driving order: what segment i + 1 needs of segment i's old state is carried along.
+// All segments of a case, in place and in segment order. Each adds what it passes on to what enters its followers; when a segment's turn
+// comes, all that enter it have had theirs, and its followers still stand as before the step.
 use metanet::SegmentState;
+use segment::entering;
 use segment::state;
 ghost use mathlib.Core.Path.{_≡_};
 ghost use lib.ListN.{length};
@@ -34,24 +36,37 @@ pub(crate) fn step_states(
     ensures { λ r. ⌜ Stepped (now (words .entry)) (now (speeds .entry)) (now (arrivals .entry)) at from n t (now (words .exit)) (now (speeds .exit)) r ⌝ }
 {
     let h = network_words::kept_head(&words[..network_words::NETWORK_WORDS]);
+    let mut acc = entering::none_yet();
     let mut i: usize = 0;
-    let mut before = speeds[from];
-    let mut passed: u64 = 0;
     let mut left: u64 = 0;
     while i < n {
         let a = at + 16 * i;
         let e = a + 16;
         let b = from + i;
+        let own = i + 1;
         let v = speeds[b];
         let d = arrivals[i] as u64;
-        let r = state::new_state_in(words, h, a, v, d, i, n, t, passed, before);
+        let came = acc[own];
+        let r = state::new_state_in(words, h, a, v, d, i, t, came);
         let flows = r.flows;
-        passed = state::pass_on(words, i, flows.outflow);
-        left = left + (flows.outflow - passed);
+        let rest = state::pass_on(words, i, flows.outflow);
+        left = left + (flows.outflow - rest);
+        let f = state::following_of(words, i);
         store(&mut words[a..e], r);
         speeds[b] = r.speed;
-        before = v;
-        i += 1;
+        i = own;
+        let p = f.first as usize;
+        let pe = acc[p];
+        if f.second == 0 {
+            acc[p] = entering::join(pe, rest, flows.outflow, v);
+        } else {
+            let x = entering::first_part(rest, f.share);
+            acc[p] = entering::join(pe, x, flows.outflow, v);
+            let q = f.second as usize;
+            let qe = acc[q];
+            acc[q] = entering::join(qe, rest - x, flows.outflow, v);
+        }
     }
-    left + passed
+    let gone = acc[0];
+    left + gone.passed
 }

@@ -1,1 +1,2 @@
 pub mod EightEntries
+pub mod NoneBefore

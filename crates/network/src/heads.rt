@@ -30,14 +30,14 @@ pub(crate) fn head_number(file: &[u8]) -> u64
     if !has_mark(file) {
         return 2;
     }
-    if number::u16_at(file, 3) != 1 {
+    let h = crate::head_of(file);
+    if rows::version_bad(h) {
         return 3;
     }
-    let h = crate::head_of(file);
     if rows::head_bad(h) | head_padding(file) {
         return 4;
     }
-    if file.len() as u64 != 16 + 804 * h.curves + 16 * h.size {
+    if file.len() as u64 != crate::size_said(file) {
         return 5;
     }
     0

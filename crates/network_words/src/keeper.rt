@@ -22,7 +22,7 @@ fn head_words(h: Head) -> [u64; 16]
         h.nu,
         h.kappa,
         h.delta,
-        0,
+        h.version,
         0,
         0,
         0,
@@ -37,6 +37,7 @@ fn head_words(h: Head) -> [u64; 16]
 fn segment_words(s: Segment) -> [u64; 16]
     ensures { λ r. ⌜ r ≡ segmentWords s ⌝ }
 {
+    let f = s.following;
     [
         s.metres,
         s.lanes,
@@ -46,9 +47,9 @@ fn segment_words(s: Segment) -> [u64; 16]
         s.origin,
         s.exit,
         s.most,
-        0,
-        0,
-        0,
+        f.first,
+        f.second,
+        f.share,
         0,
         0,
         0,

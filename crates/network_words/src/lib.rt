@@ -1,15 +1,19 @@
-// A network kept in words, a word a number: what they hold, whether rows 4, 6, 7 and 8 refuse it, and how a file's network gets there.
+// A network kept in words, a word a number: what they hold, whether the rows refuse it, and how a file's network gets there.
 // Places are those of docs/ARRANGEMENT.md; words that are free are 0.
-mod judge; // judge.rt: rows 4, 6, 7 and 8
+mod judge; // judge.rt: the rows of a kept network
+mod origins; // origins.rt: row 28, and which segments have one before them
 mod keeper; // keeper.rt: the parts of a file's network, written into words
 
+use format::Following;
 use format::Head;
 use format::Segment;
 ghost use mathlib.Core.Path.{_≡_};
 ghost use Prim.Native.Nat.{_<_, _≤_};
 ghost use mathlib.Core.List.{_++_};
 ghost use lib.ListN.{length, getD, drop};
+ghost use Rattle.format.specs.Network.{hasBefore};
 ghost use Rattle.format.specs.File.{fileNumber, networkOf};
+ghost use Rattle.format.proofs.Accepted.{SegmentsKept};
 ghost use Rattle.format.specs.Words.{headIn, entryIn, segmentIn, keptNumber, keptWords};
 
 // The words of a kept network.
@@ -30,6 +34,7 @@ pub fn kept_head(kept: &[u64]) -> Head
     ensures { λ r. ⌜ r ≡ headIn (now (kept .entry)) ⌝ }
 {
     Head {
+        version: word_at(kept, 7),
         step: word_at(kept, 0),
         size: word_at(kept, 1),
         curves: word_at(kept, 2),
@@ -45,6 +50,11 @@ pub fn kept_segment(kept: &[u64], i: u32) -> Segment
     ensures { λ r. ⌜ r ≡ segmentIn (now (kept .entry)) i ⌝ }
 {
     let at = 1624 + 16 * (i as usize);
+    let following = Following {
+        first: word_at(kept, at + 8),
+        second: word_at(kept, at + 9),
+        share: word_at(kept, at + 10),
+    };
     Segment {
         metres: word_at(kept, at),
         lanes: word_at(kept, at + 1),
@@ -54,6 +64,7 @@ pub fn kept_segment(kept: &[u64], i: u32) -> Segment
         origin: word_at(kept, at + 5),
         exit: word_at(kept, at + 6),
         most: word_at(kept, at + 7),
+        following: following,
     }
 }
 
@@ -65,6 +76,49 @@ pub fn kept_origin(kept: &[u64], i: usize) -> u64
     kept[1624 + 16 * i + 5]
 }
 
+// Whether some segment goes on to segment i, counted from 0, of a judged network.
+pub fn has_before(kept: &[u64], i: usize) -> bool
+    requires { ⌜ SegmentsKept (now kept) (headIn (now kept)) ⌝ }
+    requires { ⌜ i < headIn (now kept) .size ⌝ }
+    ensures { λ r. ⌜ r ≡ hasBefore (segmentIn (now (kept .entry))) (headIn (now (kept .entry)) .size) i ⌝ }
+{
+    origins::has_before(kept, i)
+}
+
+// What follows segment i, counted from 0.
+pub fn following_in(kept: &[u64], i: usize) -> Following
+    requires { ⌜ (2560 ≤ length (now kept)) × (i < 40) ⌝ }
+    ensures { λ r. ⌜ r ≡ segmentIn (now (kept .entry)) i .following ⌝ }
+{
+    let at = 1624 + 16 * i;
+    Following {
+        first: kept[at + 8],
+        second: kept[at + 9],
+        share: kept[at + 10],
+    }
+}
+
+// Segment i, counted from 0, where the words are all there: no number of it is tested against their length, since every call judges all
+// segments and a step reads them.
+pub fn segment_in(kept: &[u64], i: usize) -> Segment
+    requires { ⌜ (2560 ≤ length (now kept)) × (i < 40) ⌝ }
+    ensures { λ r. ⌜ r ≡ segmentIn (now (kept .entry)) i ⌝ }
+{
+    let at = 1624 + 16 * i;
+    let following = following_in(kept, i);
+    Segment {
+        metres: kept[at],
+        lanes: kept[at + 1],
+        curve: kept[at + 2],
+        critical: kept[at + 3],
+        jam: kept[at + 4],
+        origin: kept[at + 5],
+        exit: kept[at + 6],
+        most: kept[at + 7],
+        following: following,
+    }
+}
+
 // Entry j of curve k of the network kept in words of any content.
 pub fn kept_entry(kept: &[u64], k: u32, j: u32) -> u64
     ensures { λ r. ⌜ r ≡ entryIn (now (kept .entry)) k j ⌝ }
@@ -72,7 +126,7 @@ pub fn kept_entry(kept: &[u64], k: u32, j: u32) -> u64
     word_at(kept, 16 + 201 * (k as usize) + (j as usize))
 }
 
-// The number that refuses the network kept in these words: 11 where they are too few, then rows 4, 6, 7 and 8, or 0.
+// The number that refuses the network kept in these words: 11 where they are too few, then the rows, or 0.
 pub fn kept_number(kept: &[u64]) -> u64
     ensures { λ r. ⌜ r ≡ keptNumber (now (kept .entry)) ⌝ }
 {

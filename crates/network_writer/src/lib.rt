@@ -5,12 +5,14 @@ use format::Segment;
 ghost use mathlib.Core.Path.{_≡_};
 ghost use Prim.Native.Nat.{_+_, _*_, _≤_};
 ghost use mathlib.Core.List.{_++_};
-ghost use lib.ListN.{length, getD, drop};
+ghost use lib.ListN.{length, getD, take, drop};
 ghost use Rattle.laws.specs.Lists.{puts};
 ghost use Rattle.laws.specs.BigEndian.{u32Bytes};
-ghost use Rattle.format.specs.Written.{headBytes, segmentBytes, fileOf};
+ghost use Rattle.format.specs.Written.{headBytes, fileOf};
 ghost use Rattle.format.specs.Words.{headIn, segmentIn, networkIn, keptNumber};
+ghost use Rattle.format.proofs.Accepted.{HeadWithin};
 ghost use Rattle.format.specs.File.{fileSize};
+ghost use Rattle.format.proofs.Record.{longBytes};
 
 fn head_bytes(h: Head) -> [u8; 16]
     ensures { λ r. ⌜ r ≡ headBytes h ⌝ }
@@ -20,8 +22,8 @@ fn head_bytes(h: Head) -> [u8; 16]
         mark[0],
         mark[1],
         mark[2],
-        0,
-        1,
+        number::low(h.version / 256),
+        number::low(h.version),
         number::low(h.step),
         number::low(h.size),
         number::low(h.curves),
@@ -36,9 +38,11 @@ fn head_bytes(h: Head) -> [u8; 16]
     ]
 }
 
-fn segment_bytes(s: Segment) -> [u8; 16]
-    ensures { λ r. ⌜ r ≡ segmentBytes s ⌝ }
+// The 20 bytes of a version 2 record; the first 16 of them are a version 1 record.
+fn record_bytes(s: Segment) -> [u8; 20]
+    ensures { λ r. ⌜ r ≡ longBytes s ⌝ }
 {
+    let f = s.following;
     [
         number::low(s.metres / 256),
         number::low(s.metres),
@@ -56,6 +60,10 @@ fn segment_bytes(s: Segment) -> [u8; 16]
         number::low(s.most),
         0,
         0,
+        number::low(f.first),
+        number::low(f.second),
+        number::low(f.share / 256),
+        number::low(f.share),
     ]
 }
 
@@ -68,12 +76,13 @@ fn put_head(out: &mut [u8], h: Head)
     bytes::copy(&head, out);
 }
 
-fn put_segment(out: &mut [u8], s: Segment)
-    requires { ⌜ 16 ≤ length (now out) ⌝ }
-    ensures { λ _. ⌜ now (out .exit) ≡ segmentBytes s ++ drop 16 (now (out .entry)) ⌝ }
+// Writes the first w bytes of a record.
+fn put_record(out: &mut [u8], s: Segment, w: usize)
+    requires { ⌜ (w ≤ 20) × (w ≤ length (now out)) ⌝ }
+    ensures { λ _. ⌜ now (out .exit) ≡ take w (longBytes s) ++ drop w (now (out .entry)) ⌝ }
 {
-    let record = segment_bytes(s);
-    bytes::copy(&record, out);
+    let record = record_bytes(s);
+    bytes::copy(&record[..w], out);
 }
 
 // Writes count entries, which stand in the words from 16 on, at byte 16 of the file.
@@ -89,18 +98,26 @@ fn put_entries(kept: &[u64], count: usize, out: &mut [u8])
     }
 }
 
-// Writes n records from byte at on.
-fn put_segments(kept: &[u64], n: usize, out: &mut [u8], at: usize)
-    requires { ⌜ (n ≤ 40) × (at + 16 * n ≤ length (now out)) × (at ≤ 1000000) ⌝ }
-    ensures { λ _. ⌜ now (out .exit) ≡ puts 16 (λ i. segmentBytes (segmentIn (now (kept .entry)) i)) at n (now (out .entry)) ⌝ }
+// Writes n records of w bytes each from byte at on.
+fn put_records(kept: &[u64], n: usize, w: usize, out: &mut [u8], at: usize)
+    requires { ⌜ (n ≤ 40) × (w ≤ 20) × (at + w * n ≤ length (now out)) × (at ≤ 1000000) ⌝ }
+    ensures { λ _. ⌜ now (out .exit) ≡ puts w (λ i. take w (longBytes (segmentIn (now (kept .entry)) i))) at n (now (out .entry)) ⌝ }
 {
     let mut i = 0;
     while i < n {
-        let from = at + 16 * i;
+        let from = at + w * i;
         let s = network_words::kept_segment(kept, i as u32);
-        put_segment(&mut out[from..from + 16], s);
+        put_record(&mut out[from..from + w], s, w);
         i += 1;
     }
+}
+
+// The bytes of the file of a network with this head.
+pub fn file_size(h: Head) -> u64
+    requires { ⌜ HeadWithin h ⌝ }
+    ensures { λ r. ⌜ r ≡ fileSize h ⌝ }
+{
+    16 + 804 * h.curves + network::record_size(h) * h.size
 }
 
 // Writes the kept network, which kept_number accepts, as a file over the buffer's first bytes; later bytes stay.
@@ -112,7 +129,8 @@ pub fn write(kept: &[u64], out: &mut [u8])
     let h = network_words::kept_head(kept);
     let c = h.curves as usize;
     let n = h.size as usize;
+    let w = network::record_size(h) as usize;
     put_head(out, h);
     put_entries(kept, 201 * c, out);
-    put_segments(kept, n, out, 16 + 804 * c);
+    put_records(kept, n, w, out, 16 + 804 * c);
 }

@@ -9,7 +9,7 @@ use Rattle.laws.specs.First.{outside, firstHeld}
 use Rattle.laws.specs.BigEndian.{byteAt}
 use Rattle.format.specs.declared.Head.{Head}
 use Rattle.format.specs.declared.Segment.{Segment}
-use Rattle.format.specs.Network.{headTests, segmentTests}
+use Rattle.format.specs.Network.{headTests, segmentTests, shareTests}
 use Rattle.format.specs.File.{headOf, segmentOn, recordStart}
 use Rattle.format.specs.Place.{entryBad, headRules, recordRules}
 
@@ -27,10 +27,10 @@ module _ (b : List ℕ) {h : Head} {x y z : ℕ} (head : h ≡ headOf b) where
   pub head-read : x ≡ byteAt b 11 → y ≡ byteAt b 14 → z ≡ byteAt b 15 → firstHeld (headTests h ++ (ltb 0 x ∷ ltb 0 y ∷ ltb 0 z ∷ [])) ≡ firstHeld (headRules b)
   head-read ex ey ez = λ t. firstHeld (headTests (head t) ++ (ltb 0 (ex t) ∷ ltb 0 (ey t) ∷ ltb 0 (ez t) ∷ []))
 
-  pub record-read : (i : ℕ) {at : ℕ} {s : Segment} → at ≡ recordStart (headOf b) i → s ≡ segmentOn b i → x ≡ byteAt b (at + 7) → y ≡ byteAt b (at + 14) → z ≡ byteAt b (at + 15) → firstHeld (segmentTests h i s ++ (ltb 0 x ∷ ltb 0 y ∷ ltb 0 z ∷ [])) ≡ firstHeld (recordRules b i)
+  pub record-read : (i : ℕ) {at : ℕ} {s : Segment} → at ≡ recordStart (headOf b) i → s ≡ segmentOn b i → x ≡ byteAt b (at + 7) → y ≡ byteAt b (at + 14) → z ≡ byteAt b (at + 15) → firstHeld (segmentTests h i s ++ (ltb 0 x ∷ ltb 0 y ∷ ltb 0 z ∷ shareTests s)) ≡ firstHeld (recordRules b i)
   record-read i {at} start es ex ey ez =
       let moved : (d : ℕ) → byteAt b (at + d) ≡ byteAt b (recordStart (headOf b) i + d) = λ d. ap (λ (a : ℕ). byteAt b (a + d)) start in
       let e7 = ex ∙ moved 7 in
       let e14 = ey ∙ moved 14 in
       let e15 = ez ∙ moved 15 in
-      λ t. firstHeld (segmentTests (head t) i (es t) ++ (ltb 0 (e7 t) ∷ ltb 0 (e14 t) ∷ ltb 0 (e15 t) ∷ []))
+      λ t. firstHeld (segmentTests (head t) i (es t) ++ (ltb 0 (e7 t) ∷ ltb 0 (e14 t) ∷ ltb 0 (e15 t) ∷ shareTests (es t)))

@@ -1,6 +1,7 @@
 // Where a network file is wrong: the number that refuses it, and the part, the rule and the byte that it is refused for.
 mod rules; // rules.rt: the rules of rows 2, 4 and 7, one by one, and the first that is broken
-mod search; // search.rt: the first entry and the first record that are refused
+mod followers; // followers.rt: the rules of row 27
+mod search; // search.rt: the first entry, record and segment that are refused
 mod offsets; // offsets.rt: part, rule and byte, by the number that refuses
 
 use format::Place;

@@ -1,18 +1,20 @@
 // Part, rule and byte of a refusal, by the number that refuses.
+use crate::followers;
 use crate::rules;
 use crate::search;
-use arrays::number;
 ghost use mathlib.Core.Path.{_≡_};
 ghost use Prim.Native.Nat.{_≤_};
-ghost use Rattle.format.specs.File.{headOf, fileSize};
-ghost use Rattle.format.proofs.PlaceParts.{partOf, ruleOf, headOffset, offsetOf};
+ghost use Rattle.format.proofs.PlaceParts.{partOf, ruleOf, headOffset, fieldOf, offsetOf};
 
-// The curve (6) or the record (7, 8).
+// The curve (6), the record (7, 8, 27) or the segment (28).
 pub(crate) fn part(file: &[u8], number: u64) -> u32
     ensures { λ r. ⌜ (r ≡ partOf (now (file .entry)) number) × (r ≤ 40) ⌝ }
 {
     if number == 6 {
         return search::bad_entry(file) / 201;
+    }
+    if number == 28 {
+        return search::bad_origin(file);
     }
     if 6 < number {
         return search::bad_record(file);
@@ -20,7 +22,7 @@ pub(crate) fn part(file: &[u8], number: u64) -> u32
     0
 }
 
-// The rule that is broken (4, 7) or the entry (6).
+// The rule that is broken (4, 7, 27) or the entry (6).
 pub(crate) fn rule(file: &[u8], number: u64, part: u32) -> u64
     requires { ⌜ part ≤ 40 ⌝ }
     ensures { λ r. ⌜ r ≡ ruleOf (now (file .entry)) number part ⌝ }
@@ -34,14 +36,10 @@ pub(crate) fn rule(file: &[u8], number: u64, part: u32) -> u64
     if number == 7 {
         return rules::record_rule(file, part);
     }
+    if number == 27 {
+        return followers::follower_rule(file, part);
+    }
     0
-}
-
-// As many bytes as the head says.
-fn size_said(file: &[u8]) -> u64
-    ensures { λ r. ⌜ r ≡ fileSize (headOf (now (file .entry))) ⌝ }
-{
-    16 + 804 * number::byte_at(file, 7) + 16 * number::byte_at(file, 6)
 }
 
 // Rows 1 to 5.
@@ -61,7 +59,24 @@ fn head_offset(file: &[u8], number: u64, rule: u64) -> u64
         return rules::head_field(rule) as u64;
     }
     if number == 5 {
-        return arrays::least(file.len(), size_said(file) as usize) as u64;
+        return arrays::least(file.len(), network::size_said(file) as usize) as u64;
+    }
+    0
+}
+
+// Rows 7, 8, 27 and 28: the byte of the record.
+fn field(file: &[u8], number: u64, part: u32, rule: u64) -> u8
+    requires { ⌜ part ≤ 40 ⌝ }
+    ensures { λ r. ⌜ r ≡ fieldOf (now (file .entry)) number part rule ⌝ }
+{
+    if number == 7 {
+        return rules::record_field(rule);
+    }
+    if number == 27 {
+        return followers::follower_field(file, part, rule);
+    }
+    if number == 28 {
+        return 6;
     }
     0
 }
@@ -74,11 +89,8 @@ pub(crate) fn offset(file: &[u8], number: u64, part: u32, rule: u64) -> u64
     if number == 6 {
         return 16 + 4 * (search::bad_entry(file) as u64);
     }
-    if number == 7 {
-        return rules::record_start(file, part) + rules::record_field(rule) as u64;
-    }
-    if number == 8 {
-        return rules::record_start(file, part);
+    if 6 < number {
+        return network::record_start(file, part) + field(file, number, part, rule) as u64;
     }
     head_offset(file, number, rule)
 }

@@ -1,13 +1,11 @@
 // The rules of rows 2, 4 and 7, one by one, in the order of their definitions, and the first that is broken.
 use arrays::number;
 ghost use mathlib.Core.Path.{_≡_};
-ghost use Prim.Native.Nat.{_<_, _≤_};
 ghost use mathlib.Core.List.{[], _∷_, _++_};
 ghost use lib.Dec.{ltb};
 ghost use lib.ListN.{getD};
 ghost use Rattle.laws.specs.First.{firstHeld};
-ghost use Rattle.format.specs.Network.{headTests, segmentTests};
-ghost use Rattle.format.specs.File.{headOf, recordStart};
+ghost use Rattle.format.specs.Network.{headTests, segmentTests, shareTests};
 ghost use Rattle.format.specs.Placed.{markRules};
 ghost use Rattle.format.specs.Place.{headRules, headFields, recordRules, recordFields};
 
@@ -78,14 +76,6 @@ pub(crate) fn head_field(rule: u64) -> u8
     0
 }
 
-// Where record i begins, if the head is right.
-pub(crate) fn record_start(file: &[u8], i: u32) -> u64
-    requires { ⌜ i ≤ 40 ⌝ }
-    ensures { λ r. ⌜ (r ≡ recordStart (headOf (now (file .entry))) i) × (r < 300000) ⌝ }
-{
-    16 + 804 * number::byte_at(file, 7) + 16 * (i as u64)
-}
-
 // Whether each rule of record i is broken, with its bytes 7, 14 and 15.
 fn record_rules(
     h: format::Head,
@@ -94,11 +84,10 @@ fn record_rules(
     z7: u64,
     z14: u64,
     z15: u64,
-) -> [bool; 15]
-    requires { ⌜ i ≤ 40 ⌝ }
-    ensures { λ r. ⌜ r ≡ segmentTests h i s ++ (ltb 0 z7 ∷ ltb 0 z14 ∷ ltb 0 z15 ∷ []) ⌝ }
+) -> [bool; 17]
+    ensures { λ r. ⌜ r ≡ segmentTests h i s ++ (ltb 0 z7 ∷ ltb 0 z14 ∷ ltb 0 z15 ∷ shareTests s) ⌝ }
 {
-    let next = i + 1;
+    let f = s.following;
     [
         arrays::outside(100, s.metres, 2000),
         arrays::outside(1, s.lanes, 8),
@@ -109,21 +98,22 @@ fn record_rules(
         1 < s.origin,
         (i == 0) & (s.origin == 0),
         1000 < s.exit,
-        (next == h.size) & (0 < s.exit),
+        (f.first == 0) & (f.second == 0) & (0 < s.exit),
         (s.origin == 0) & (0 < s.most),
         (s.origin == 1) & arrays::outside(1, s.most, 300000),
         0 < z7,
         0 < z14,
         0 < z15,
+        1000 < f.share,
+        (f.second == 0) & (f.share != 1000),
     ]
 }
 
 // The first rule of record i that is broken.
 pub(crate) fn record_rule(file: &[u8], i: u32) -> u64
-    requires { ⌜ i ≤ 40 ⌝ }
     ensures { λ r. ⌜ r ≡ firstHeld (recordRules (now (file .entry)) i) ⌝ }
 {
-    let at = record_start(file, i) as usize;
+    let at = network::record_start(file, i) as usize;
     let z7 = number::byte_at(file, at + 7);
     let z14 = number::byte_at(file, at + 14);
     let z15 = number::byte_at(file, at + 15);
@@ -137,8 +127,8 @@ pub(crate) fn record_rule(file: &[u8], i: u32) -> u64
 pub(crate) fn record_field(rule: u64) -> u8
     ensures { λ r. ⌜ r ≡ getD recordFields rule 0 ⌝ }
 {
-    let fields = [0, 2, 3, 4, 4, 5, 6, 6, 8, 8, 10, 10, 7, 14, 15];
-    if rule < 15 {
+    let fields = [0, 2, 3, 4, 4, 5, 6, 6, 8, 8, 10, 10, 7, 14, 15, 18, 18];
+    if rule < 17 {
         return fields[rule as usize];
     }
     0

@@ -16,6 +16,7 @@ use Rattle.laws.proofs.Tests.{or-right, inside-low, inside-high}
 use Rattle.format.specs.declared.Segment.{Segment}
 use Rattle.format.specs.Network.{networkFrom, segmentOf}
 use Rattle.metanet.specs.declared.Setting.{Setting}
+use Rattle.metanet.specs.Step.{rampAt}
 use Rattle.book.specs.Arrangement.{networkAt, sizeAt}
 use Rattle.book.specs.Sound.{sound}
 use Rattle.metanet.specs.Change.{complianceBad, complianceWord, signFor, signRefused, settingRefused}
@@ -86,9 +87,8 @@ module _ (words : List ℕ) (speeds : List Float) (i : ℕ) where
     sign-judged limit z = judged (item (signed i limit z)) words speeds refl s
 
     meter-judged : (m : Setting)
-        → let w = segmentOf (networkAt words) (i - 1) in
-        refusalAt (item (metered i m)) (lent words speeds)
-        ≡ row (outside 1 i (sizeAt words)) 17 (row (eqb i 1 || eqb (w .origin) 0) 19 (row (settingRefused (w .most) m) 20 0))
+        → refusalAt (item (metered i m)) (lent words speeds)
+        ≡ row (outside 1 i (sizeAt words)) 17 (row (not (rampAt (networkAt words) (i - 1))) 19 (row (settingRefused (segmentOf (networkAt words) (i - 1) .most) m) 20 0))
     unfolding refusal itemNumber networkFrom
     meter-judged m = judged (item (metered i m)) words speeds refl s
 
@@ -110,20 +110,23 @@ module _ (words : List ℕ) (speeds : List Float) (i : ℕ) where
       pub meter-missing : outside 1 i (sizeAt words) ≡ true → 17 ≡ refusalAt (item (metered i m)) (lent words speeds)
       meter-missing e = sym (meter-judged m ∙ row-applies _ _ _ e)
 
-      -- w is segment i, as the code read it
-      module _ (there : outside 1 i (sizeAt words) ≡ false) {w : Segment} (is : w ≡ segmentOf (networkAt words) (i - 1)) where
-        ramps : refusalAt (item (metered i m)) (lent words speeds) ≡ row (eqb i 1 || eqb (w .origin) 0) 19 (row (settingRefused (w .most) m) 20 0)
-        ramps = rw is (meter-judged m ∙ row-skipped _ _ _ there)
+      module _ (there : outside 1 i (sizeAt words) ≡ false) where
+        ramps : refusalAt (item (metered i m)) (lent words speeds) ≡ row (not (rampAt (networkAt words) (i - 1))) 19 (row (settingRefused (segmentOf (networkAt words) (i - 1) .most) m) 20 0)
+        ramps = meter-judged m ∙ row-skipped _ _ _ there
 
-        pub meter-no-ramp : (eqb i 1 || eqb (w .origin) 0) ≡ true → 19 ≡ refusalAt (item (metered i m)) (lent words speeds)
+        pub meter-no-ramp : not (rampAt (networkAt words) (i - 1)) ≡ true → 19 ≡ refusalAt (item (metered i m)) (lent words speeds)
         meter-no-ramp e = sym (ramps ∙ row-applies _ _ _ e)
 
-        module _ (ramp : (eqb i 1 || eqb (w .origin) 0) ≡ false) where
+        -- w is segment i, as the code read it
+        module _ (ramp : not (rampAt (networkAt words) (i - 1)) ≡ false) {w : Segment} (is : w ≡ segmentOf (networkAt words) (i - 1)) where
+          settings : refusalAt (item (metered i m)) (lent words speeds) ≡ row (settingRefused (w .most) m) 20 0
+          settings = rw is (ramps ∙ row-skipped _ _ _ ramp)
+
           pub meter-bad : settingRefused (w .most) m ≡ true → 20 ≡ refusalAt (item (metered i m)) (lent words speeds)
-          meter-bad e = sym (ramps ∙ row-skipped _ _ _ ramp ∙ row-applies _ _ _ e)
+          meter-bad e = sym (settings ∙ row-applies _ _ _ e)
 
           pub meter-taken : settingRefused (w .most) m ≡ false → 0 ≡ refusalAt (item (metered i m)) (lent words speeds)
-          meter-taken e = sym (ramps ∙ row-skipped _ _ _ ramp ∙ row-skipped _ _ _ e)
+          meter-taken e = sym (settings ∙ row-skipped _ _ _ e)
 
   -- ---- what acceptance says
 

@@ -45,7 +45,7 @@ module _ (words : List ℕ) (speeds : List Float) (ds : List ℕ) where
   module _ (s : sound words speeds ≡ true) where
     -- 13, 15 and 16, on the network's list of segments as on its words
     same-number : (t : ℕ) → stepNumber (networkAt words .head) (entryOf (networkAt words)) (segmentOf (networkAt words)) t ds ≡ stepNumberIn net t ds
-    same-number t = step-number-from (headIn net) (entryIn net) (segmentIn net) (laid words speeds s .net .each) t ds
+    same-number t = step-number-from (headIn net) (entryIn net) (segmentIn net) (laid words speeds s .net) t ds
 
     number-is : refusalAt (item (stepped ds)) (lent words speeds) ≡ first (stepNumberIn net stepsWord ds) (row (leb 1000000 (runCountAt words)) 16 0)
     unfolding refusal itemNumber

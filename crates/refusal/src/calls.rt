@@ -75,10 +75,10 @@ pub fn meter_number(words: &[u64], speeds: &[f64], i: u64, setting: Setting) -> 
     if segment::segment_missing(words, i) {
         return 17;
     }
-    let s = segment::segment_at(words, i);
-    if (i == 1) | (s.origin == 0) {
+    if segment::ramp_missing(words, i) {
         return 19;
     }
+    let s = segment::segment_at(words, i);
     if setting_bad(s.most, setting) {
         return 20;
     }

@@ -10,7 +10,6 @@ use lib.Ieee.{Float}
 use borrow.Author.Tests.{lt-ltb, le-ltb}
 use Rattle.laws.specs.First.{row}
 use Rattle.laws.proofs.First.{row-applies, row-skipped, when-accepted, when-refused}
-use Rattle.format.specs.declared.Head.{Head}
 use Rattle.format.specs.Network.{networkFrom}
 use Rattle.format.specs.File.{fileSize}
 use Rattle.format.specs.Written.{fileOf}
@@ -37,21 +36,21 @@ module _ (words : List ℕ) (speeds : List Float) (out : List ℕ) where
   unfolding writeRefusal
   write-unsound e = stays (sym (row-applies _ _ _ (ap not e))) (λ z. omega (arith, z))
 
-  -- of a sound study, whose head was read as h
-  module _ (s : sound words speeds ≡ true) {h : Head} (read : h ≡ headIn (netOf words)) where
-    refusal-is : writeRefusal words speeds out ≡ row (ltb (length out) (fileSize h)) 24 0
+  -- of a sound study, whose file was found to have m bytes
+  module _ (s : sound words speeds ≡ true) {m : ℕ} (said : m ≡ fileSize (headIn (netOf words))) where
+    refusal-is : writeRefusal words speeds out ≡ row (ltb (length out) m) 24 0
     unfolding writeRefusal networkFrom
-    refusal-is = row-skipped _ _ _ (ap not s) ∙ ap (λ (x : Head). row (ltb (length out) (fileSize x)) 24 0) (sym read)
+    refusal-is = row-skipped _ _ _ (ap not s) ∙ ap (λ (x : ℕ). row (ltb (length out) x) 24 0) (sym said)
 
-    pub write-short : length out < fileSize h → Writes words speeds out (refused 24) out
+    pub write-short : length out < m → Writes words speeds out (refused 24) out
     write-short l = stays (sym (refusal-is ∙ row-applies _ _ _ (lt-ltb _ _ l))) (λ z. omega (arith, z))
 
-    pub write-answers : {out' : List ℕ} → fileSize h ≤ length out → out' ≡ fileOf (networkIn (netOf words)) ++ drop (fileSize (headIn (netOf words))) out
-        → Writes words speeds out (figures (fileSize h ∷ [])) out'
+    pub write-answers : {out' : List ℕ} → m ≤ length out → out' ≡ fileOf (networkIn (netOf words)) ++ drop (fileSize (headIn (netOf words))) out
+        → Writes words speeds out (figures (m ∷ [])) out'
     unfolding writeAnswer writtenBytes networkFrom
     write-answers fits is =
         let z = refusal-is ∙ row-skipped _ _ _ (le-ltb _ _ fits) in
         record {
-          answers = ap (λ (x : Head). figures (fileSize x ∷ [])) read ∙ sym (when-accepted _ _ _ z);
+          answers = ap (λ (x : ℕ). figures (x ∷ [])) said ∙ sym (when-accepted _ _ _ z);
           bytes-are = is ∙ sym (when-accepted _ _ _ z);
         }

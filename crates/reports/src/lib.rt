@@ -55,7 +55,7 @@ pub fn write(words: &[u64], speeds: &[f64], out: &mut [u8]) -> Written
     }
     let net = &words[..network_words::NETWORK_WORDS];
     let h = network_words::kept_head(net);
-    let size = 16 + 804 * h.curves + 16 * h.size;
+    let size = network_writer::file_size(h);
     if (out.len() as u64) < size {
         return Written::Refused(24);
     }

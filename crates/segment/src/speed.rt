@@ -26,7 +26,7 @@ fn relax(h: Head, want: f64, v: f64) -> f64
     (case_words::whole(h.step) / case_words::whole(h.tau)) * (want - v)
 }
 
-// B: convection from the segment before, m/h.
+// B: convection from upstream, m/h.
 fn convect(h: Head, s: Segment, o: Old) -> f64
     requires { ⌜ HeadWithin h ⌝ }
     requires { ⌜ s .metres ≤ 2000 ⌝ }

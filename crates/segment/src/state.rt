@@ -2,8 +2,10 @@
 use crate::around;
 use crate::flow;
 use crate::speed;
+use format::Following;
 use format::Head;
 use format::Segment;
+use metanet::Entry;
 use metanet::Flows;
 use metanet::Neighbours;
 use metanet::Old;
@@ -82,7 +84,7 @@ fn new_state(
     requires { ⌜ HeadWithin h ⌝ }
     requires { ⌜ SegmentOk h s f ⌝ }
     requires { ⌜ StateOk s f r ⌝ }
-    requires { ⌜ (d ≤ 1000000) × (o .passed ≤ 1000000000000) ⌝ }
+    requires { ⌜ (d ≤ 1000000) × (o .passed ≤ 100000000000000) ⌝ }
     ensures { λ x. ⌜ x ≡ newState h s f r t d onramp o ⌝ }
 {
     let g = flow::area_of(s);
@@ -111,8 +113,7 @@ fn new_state(
     }
 }
 
-// The new state of segment i, whose old state starts at word a: v is its speed, d its arrivals, passed and before what the segment before
-// it passes on and its speed.
+// The new state of segment i, whose old state starts at word a: v is its speed, d its arrivals, e what enters it.
 pub fn new_state_in(
     words: &[u64],
     h: Head,
@@ -120,22 +121,28 @@ pub fn new_state_in(
     v: f64,
     d: u64,
     i: usize,
-    n: usize,
     t: u64,
-    passed: u64,
-    before: f64,
+    e: Entry,
 ) -> SegmentState
-    requires { ⌜ NewStateOk (now words) a v d i n passed × (h ≡ headIn (netOf (now words))) ⌝ }
-    ensures { λ r. ⌜ r ≡ newStateIn (netOf (now (words .entry))) (drop a (now (words .entry))) v d i n t passed before ⌝ }
+    requires { ⌜ NewStateOk (now words) a v d i e × (h ≡ headIn (netOf (now words))) ⌝ }
+    ensures { λ r. ⌜ r ≡ newStateIn (netOf (now (words .entry))) (drop a (now (words .entry))) v d i t e ⌝ }
 {
     let net = &words[..network_words::NETWORK_WORDS];
     let rest = &words[a..];
-    let s = network_words::kept_segment(net, i as u32);
+    let s = network_words::segment_in(net, i);
     let f = network_words::kept_entry(net, s.curve as u32, 0);
     let r = case_words::state_of(rest, v);
-    let o = around::neighbours(net, rest, h, i, n, s, r, passed, before);
-    let onramp = case_words::is_on_ramp(s.origin, i);
+    let o = around::neighbours(net, rest, h, i, s, r, e);
+    let onramp = (s.origin == 1) & (e.segments != 0);
     new_state(h, s, f, r, t, d, onramp, o)
+}
+
+// What follows segment i.
+pub fn following_of(words: &[u64], i: usize) -> Following
+    requires { ⌜ (2560 ≤ length (now words)) × (i < 40) ⌝ }
+    ensures { λ r. ⌜ r ≡ segmentIn (netOf (now (words .entry))) i .following ⌝ }
+{
+    network_words::following_in(&words[..network_words::NETWORK_WORDS], i)
 }
 
 // What segment i passes on of an outflow.
@@ -144,6 +151,6 @@ pub fn pass_on(words: &[u64], i: usize, out: u64) -> u64
     requires { ⌜ segmentIn (netOf (now words)) i .exit ≤ 1000 ⌝ }
     ensures { λ r. ⌜ r ≡ out - exitPart out (segmentIn (netOf (now (words .entry))) i .exit) ⌝ }
 {
-    let s = network_words::kept_segment(&words[..network_words::NETWORK_WORDS], i as u32);
+    let s = network_words::segment_in(&words[..network_words::NETWORK_WORDS], i);
     out - flow::exit_part(out, s.exit)
 }

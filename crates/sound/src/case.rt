@@ -7,6 +7,9 @@ use metanet::SignSetting;
 ghost use mathlib.Core.Path.{_≡_};
 ghost use Prim.Native.Nat.{_<_, _≤_};
 ghost use Rattle.laws.specs.First.{firstOf};
+ghost use Rattle.format.specs.Words.{headIn, entryIn, segmentIn};
+ghost use Rattle.format.proofs.Accepted.{SegmentsKept};
+ghost use Rattle.metanet.specs.Step.{onRamp};
 ghost use Rattle.metanet.proofs.Ready.{CaseAt};
 ghost use Rattle.metanet.specs.Sound.{signBad, hasAlinea, openBad, fixedBad, alineaBad, settingBad, flowsBad, speedBad, stateBad, totalsBad};
 ghost use Rattle.metanet.proofs.InWords.{stateNumberIn, caseNumberIn};
@@ -95,6 +98,18 @@ fn state_bad(m: bool, s: Segment, f: u64, r: SegmentState) -> bool
         | speed_bad(f, r.speed)
 }
 
+// Whether segment i may be metered; looked for only where a setting of this kind asks for it, since every call judges all.
+fn may_meter(net: &[u64], kind: u64, i: usize) -> bool
+    requires { ⌜ SegmentsKept (now net) (headIn (now net)) ⌝ }
+    requires { ⌜ i < headIn (now net) .size ⌝ }
+    ensures { λ r. ⌜ (0 < kind → r ≡ onRamp (headIn (now (net .entry))) (entryIn (now (net .entry))) (segmentIn (now (net .entry))) i) ⌝ }
+{
+    if kind == 0 {
+        return false;
+    }
+    case_words::is_on_ramp(net, i)
+}
+
 // 12, of state i of the case.
 fn state_number(words: &[u64], speeds: &[f64], at: usize, from: usize, n: usize, i: usize) -> u64
     requires { ⌜ CaseAt (now words) (now speeds) at from n ⌝ }
@@ -102,12 +117,13 @@ fn state_number(words: &[u64], speeds: &[f64], at: usize, from: usize, n: usize,
     ensures { λ r. ⌜ r ≡ stateNumberIn (now (words .entry)) (now (speeds .entry)) at from n i ⌝ }
 {
     let net = &words[..network_words::NETWORK_WORDS];
-    let s = network_words::kept_segment(net, i as u32);
+    let s = network_words::segment_in(net, i);
     let f = network_words::kept_entry(net, s.curve as u32, 0);
     let a = at + 16 * i;
     let b = from + i;
     let r = case_words::state_of(&words[a..], speeds[b]);
-    if state_bad(case_words::is_on_ramp(s.origin, i), s, f, r) {
+    let ramp = r.ramp;
+    if state_bad(may_meter(net, ramp.kind, i), s, f, r) {
         return 12;
     }
     0

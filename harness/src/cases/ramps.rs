@@ -4,7 +4,7 @@ use crate::random::Random;
 use oracle::case::{Alinea, SegmentState, Setting};
 use oracle::file::Segment;
 
-/// Any setting and rate of a ramp past segment 1.
+/// Any setting and rate of an on-ramp.
 pub fn set_any(random: &mut Random, segment: &Segment, state: &mut SegmentState) {
     match random.below(4) {
         0 => state.set_meter(segment, Setting::Open),

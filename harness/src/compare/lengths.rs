@@ -1,7 +1,7 @@
 //! Valid files cut short or made longer.
 
 use super::{expect_number, Difference};
-use crate::draft::{Draft, CURVE, HEAD};
+use crate::draft::{record_length, Draft, CURVE, HEAD};
 use crate::networks::{network, ANY};
 use crate::random::Random;
 
@@ -44,8 +44,9 @@ fn length(random: &mut Random, file: &[u8], index: u64) -> usize {
 fn part_edge(random: &mut Random, file: &[u8]) -> usize {
     let curves = u64::from(file[7]);
     let records = u64::from(file[6]);
+    let record = record_length(u16::from(file[4]));
     match random.once_in(2) {
         true => HEAD + CURVE * random.edge(0, curves) as usize,
-        false => file.len() - HEAD * random.edge(0, records) as usize,
+        false => file.len() - record * random.edge(0, records) as usize,
     }
 }

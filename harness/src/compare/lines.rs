@@ -12,6 +12,7 @@ use crate::random::Random;
 use line::Line;
 use oracle::case::Sign;
 use oracle::file::{self, Network};
+use oracle::network::Origin;
 
 /// Steps of one line.
 const STEPS: u64 = 2_000;
@@ -87,7 +88,7 @@ fn change(random: &mut Random, line: &Line) -> Option<Call> {
                 compliance,
             })
         }
-        1 if place > 0 && network.origin => {
+        1 if line.network.origin(place) == Origin::Ramp => {
             let mut state = line.case.segments[place].clone();
             set_any(random, network, &mut state);
             let setting = state.setting;

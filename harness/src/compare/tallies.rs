@@ -8,12 +8,13 @@ use crate::random::Random;
 use crate::stored_case::{state_word, total_word};
 use crate::stored_case::{COUNT, LAST_OUTFLOW, LAST_RELEASE, QUEUE, RATE, STEPS};
 use crate::study::{case_word, speeds_for, words_for, RUNS};
-use oracle::file::{self, Network, Segment};
+use oracle::file::{self, Followers, Network, Segment};
 use oracle::network::ENTRIES;
 
 /// The network of the listing.
 fn network() -> Network {
     Network {
+        version: 1,
         step: 10,
         relaxation: 20,
         anticipation: 0,
@@ -29,6 +30,7 @@ fn network() -> Network {
             origin: true,
             exit_share: 0,
             most_released: 6_000,
+            followers: Followers::NONE,
         }],
     }
 }

@@ -31,7 +31,7 @@ pub const DAMAGES: &[Damage<Draft>] = &[
         draft.spoil(3, random)
     }),
     head("low byte of the version", 3, |draft, _, random| {
-        draft.spoil(4, random)
+        draft.put8(4, random.outside(1, 2, 255))
     }),
     head("version 256", 3, |draft, _, _| draft.put16(3, 256)),
     head("T", 4, |draft, _, random| {

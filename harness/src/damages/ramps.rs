@@ -6,7 +6,7 @@ use crate::stored_case::{state_word, CaseDraft, CODE, GAIN, INTERVAL, LEAST, RAT
 use oracle::case::{SegmentState, Setting};
 use oracle::file::Segment;
 
-/// Gives a segment past the first an origin with such a setting.
+/// Gives a segment that has one before it an origin with such a setting.
 pub fn set(
     draft: &mut CaseDraft,
     place: usize,
@@ -24,7 +24,7 @@ pub fn leave_open(_: &mut Random, segment: &Segment, state: &mut SegmentState) {
     state.set_meter(segment, Setting::Open);
 }
 
-/// Takes the origin away from a segment past the first.
+/// Takes the origin away from a segment that has one before it.
 pub fn close(draft: &mut CaseDraft, place: usize) {
     let segment = &mut draft.network.segments[place];
     segment.origin = false;

@@ -11,9 +11,14 @@ const fn first(name: &'static str, apply: ToCase) -> Damage<CaseDraft> {
     unsound(name, Part::FirstRecord, apply)
 }
 
-/// At a segment past the first.
+/// At a segment that has one before it.
 const fn later(name: &'static str, apply: ToCase) -> Damage<CaseDraft> {
-    unsound(name, Part::LaterRecord, apply)
+    unsound(name, Part::Entered, apply)
+}
+
+/// At a mainstream origin past segment 1.
+const fn source(name: &'static str, apply: ToCase) -> Damage<CaseDraft> {
+    unsound(name, Part::Source, apply)
 }
 
 pub const DAMAGES: &[Damage<CaseDraft>] = &[
@@ -29,6 +34,15 @@ pub const DAMAGES: &[Damage<CaseDraft>] = &[
     first("gain of segment 1", unused_word::<GAIN>),
     first("least of segment 1", unused_word::<LEAST>),
     first("z of segment 1", unused_word::<INTERVAL>),
+    source("fixed at a mainstream origin", |draft, place, _| {
+        draft.words[state_word(place, CODE)] = 1
+    }),
+    source("ALINEA at a mainstream origin", put_alinea),
+    source("R of a mainstream origin", spoil_open_rate),
+    source("target of a mainstream origin", unused_word::<TARGET>),
+    source("gain of a mainstream origin", unused_word::<GAIN>),
+    source("least of a mainstream origin", unused_word::<LEAST>),
+    source("z of a mainstream origin", unused_word::<INTERVAL>),
     later("fixed without an origin", |draft, place, _| {
         close(draft, place);
         draft.words[state_word(place, CODE)] = 1

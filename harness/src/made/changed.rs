@@ -34,15 +34,17 @@ pub fn flipped(random: &mut Random, turn: u64) -> Made {
     changed(what.join(", "), study, arrays)
 }
 
-/// Another n or c, so that words ignored before are read.
+/// Another n, c or version, so that words ignored before are read, or a chain
+/// is taken for one of the other version.
 pub fn other_counts(random: &mut Random) -> Made {
     let study = any_of_shape(random, ANY);
     let mut arrays = study.laid(random);
-    match random.once_in(2) {
-        true => arrays.words[1] = random.edge(1, 40),
-        false => arrays.words[2] = random.edge(1, 8),
+    match random.below(3) {
+        0 => arrays.words[1] = random.edge(1, 40),
+        1 => arrays.words[2] = random.edge(1, 8),
+        _ => arrays.words[7] = 3 - arrays.words[7],
     }
-    changed("another n or c".into(), study, arrays)
+    changed("another n, c or version".into(), study, arrays)
 }
 
 /// A slot that is marked as filled with garbage in it.

@@ -1,7 +1,7 @@
 //! What compared steps met at a mainstream origin: how y stood to the curve's
 //! entry at C, whether its bound was the least, and which density g was.
 
-use super::said;
+use super::say_line;
 use oracle::case::{Case, SegmentState};
 use oracle::file::{Network, Segment};
 use oracle::network::Origin;
@@ -65,14 +65,8 @@ pub fn note(network: &Network, case: &Case, arrivals: &[u32]) {
 pub fn say() -> bool {
     let mut complete = true;
     for (((name, _), ways), counts) in LINES.iter().zip(&COUNTS) {
-        let times = counts.each_ref().map(|count| count.load(Relaxed));
-        let ways = ways.iter().zip(times);
-        let ways: Vec<String> = ways.map(|(way, times)| said(way.0, times)).collect();
-        match times {
-            [0, 0, 0, 0] => println!("{name:<22} not asked"),
-            _ => println!("{name:<22} {}", ways.join(", ")),
-        }
-        complete &= times.iter().all(|&times| times > 0);
+        let ways = ways.iter().zip(counts);
+        complete &= say_line(name, ways.map(|(way, count)| (way.0, count)));
     }
     complete
 }

@@ -1,8 +1,8 @@
-//! Whole figures of a step: rate, release, outflow and exit part, in mv.
+//! Whole figures of a step: rate, release, outflow and its parts, in mv.
 
 use super::origin;
 use crate::case::{Alinea, SegmentState, Setting};
-use crate::network::{Network, Segment};
+use crate::network::{Followers, Network, Segment};
 
 /// What one step makes at one segment.
 pub struct Flows {
@@ -14,6 +14,9 @@ pub struct Flows {
     pub outflow: u64,
     /// mv of the outflow that leave by the off-ramp.
     pub exit_part: u64,
+    /// mv of the rest that go to the first and to the second follower. What
+    /// goes to none leaves the network.
+    pub parts: [u64; 2],
 }
 
 impl Flows {
@@ -31,11 +34,13 @@ impl Flows {
         let waiting = state.queue + arrival;
         let road = origin::bound(network, place, state);
         let outflow = outflow(network, segment, state);
+        let exit_part = outflow * u64::from(segment.exit_share) / 1000;
         Flows {
             rate,
             release: waiting.min(rate).min(road.unwrap_or(u64::MAX)),
             outflow,
-            exit_part: outflow * u64::from(segment.exit_share) / 1000,
+            exit_part,
+            parts: parts(segment.followers, outflow - exit_part),
         }
     }
 }
@@ -64,4 +69,10 @@ pub fn rate_change(segment: &Segment, alinea: &Alinea, count: u64) -> i64 {
 fn outflow(network: &Network, segment: &Segment, state: &SegmentState) -> u64 {
     let metres = state.whole_speed() * u64::from(network.step);
     state.count * metres / (3600 * u64::from(segment.length))
+}
+
+/// The whole part of rest × share ÷ 1000, and what remains.
+pub fn parts(followers: Followers, rest: u64) -> [u64; 2] {
+    let first = rest * u64::from(followers.share) / 1000;
+    [first, rest - first]
 }

@@ -16,14 +16,14 @@ pub struct Before {
     pub speed: f64,
     /// ρ, in veh/km/lane.
     pub density: f64,
-    /// u: v of the segment before, in m/h.
+    /// u: v of what enters from the segments before, in m/h.
     pub upstream_speed: f64,
-    /// ρ': density of the next segment, in veh/km/lane.
+    /// ρ': density of what follows, in veh/km/lane.
     pub density_ahead: f64,
 }
 
 /// v after the step, in m/h. `merging` is this step's release in mv at an
-/// origin past segment 1.
+/// on-ramp.
 pub fn new_speed(
     network: &Network,
     segment: &Segment,
@@ -78,7 +78,27 @@ pub fn density(segment: &Segment, count: u64) -> f64 {
     whole(count) / whole(segment.lane_metres())
 }
 
-/// ρ' of the last segment: its own density, but at most the critical one.
+/// ρ' of the segment at that place (from 0), where each segment has its
+/// density, in veh/km/lane.
+pub fn density_ahead(segment: &Segment, count: u64, place: usize, densities: &[f64]) -> f64 {
+    match segment.followers.places() {
+        [Some(first), Some(second)] => density_of_two(densities[first], densities[second]),
+        [Some(only), None] | [None, Some(only)] => densities[only],
+        [None, None] => density_past_end(segment, count, densities[place]),
+    }
+}
+
+/// The sum of ρ² over the sum of ρ, first plus second, or 0 if that sum is 0.
+pub fn density_of_two(first: f64, second: f64) -> f64 {
+    let sum = first + second;
+    if sum == 0.0 {
+        return 0.0;
+    }
+    (first * first + second * second) / sum
+}
+
+/// ρ' of a segment that no one follows: its own density, but at most the
+/// critical one.
 pub fn density_past_end(segment: &Segment, count: u64, density: f64) -> f64 {
     if count < u64::from(segment.critical) * segment.lane_metres() {
         density

@@ -42,9 +42,10 @@ fn arrays_follow_the_book() {
 fn start_word_by_word() {
     let lent = Lent::tallies();
     let mut expected = vec![0; 2576 + 24];
-    expected[..6].copy_from_slice(&[10, 1, 1, 20, 0, 40]);
+    expected[..8].copy_from_slice(&[10, 1, 1, 20, 0, 40, 0, 1]);
     expected[16..217].fill(100_000);
     expected[1624..1632].copy_from_slice(&[500, 2, 0, 30, 180, 1, 0, 6_000]);
+    expected[1632..1635].copy_from_slice(&[0, 0, 1_000]);
     expected[2575] = ARRANGEMENT;
     expected[2576..2582].copy_from_slice(&[20_000, 5_000, 0, 0, 0, 6_000]);
     expected.resize(lent.words.len(), FREE);

@@ -2,7 +2,7 @@
 
 use crate::lent::Lent;
 use oracle::case::{Alinea, Case, Setting, Sign};
-use oracle::network::Network;
+use oracle::network::{Followers, Network};
 use oracle::study::ARRANGEMENT;
 
 /// The first word of the live case.
@@ -11,7 +11,7 @@ pub const LIVE: usize = 2576;
 impl Lent {
     /// The network and the live case; every slot is empty.
     pub fn laid(network: &Network, runs: u64, case: &Case) -> Lent {
-        let mut lent = Lent::free();
+        let mut lent = Lent::free(network.segments.len());
         lent.lay_network(network);
         lent.lay(2560, [runs, 0, 0, 0, 0, 0, 0]);
         lent.lay(2575, [ARRANGEMENT]);
@@ -23,7 +23,7 @@ impl Lent {
         self.lay(0, [u64::from(network.step), network.segments.len() as u64]);
         self.lay(2, [network.curves.len() as u64]);
         self.lay(3, [network.relaxation, network.anticipation, network.kappa]);
-        self.lay(6, [network.merging]);
+        self.lay(6, [network.merging, network.version]);
         for (curve, entries) in network.curves.iter().enumerate() {
             self.lay(16 + 201 * curve, *entries);
         }
@@ -33,6 +33,13 @@ impl Lent {
             self.lay(at + 2, [segment.curve, segment.critical, segment.jam]);
             self.lay(at + 5, [u16::from(segment.origin), segment.exit_share]);
             self.lay(at + 7, [segment.most_released]);
+            let Followers {
+                first,
+                second,
+                share,
+            } = segment.followers;
+            self.lay(at + 8, [first, second]);
+            self.lay(at + 10, [share]);
         }
     }
 

@@ -1,7 +1,7 @@
 //! The two arrays of a study, as a caller lends them.
 
 use crate::networks;
-use crate::study::{COUNTS, QUEUES, ROOM, SPEEDS};
+use crate::study::{room, COUNTS, QUEUES, SPEEDS};
 use oracle::book::{Call, Figures, Start};
 use oracle::file;
 use oracle::network::Network;
@@ -11,7 +11,7 @@ use oracle::study;
 pub const FREE: u64 = 0xfeed_beef;
 /// The bits of speeds that no one reads: a signalling NaN with a payload.
 pub const FREE_SPEED: u64 = 0x7ff0_dead_feed_beef;
-/// Words and speeds past those that three segments need.
+/// Words and speeds past those that the segments need.
 const PAST: usize = 5;
 
 #[derive(Clone)]
@@ -21,17 +21,17 @@ pub struct Lent {
 }
 
 impl Lent {
-    /// Arrays for three segments that hold nothing yet.
-    pub fn free() -> Lent {
+    /// Arrays for n segments that hold nothing yet.
+    pub fn free(n: usize) -> Lent {
         Lent {
-            words: vec![FREE; ROOM.words + PAST],
-            speeds: vec![f64::from_bits(FREE_SPEED); ROOM.speeds + PAST],
+            words: vec![FREE; room(n).words + PAST],
+            speeds: vec![f64::from_bits(FREE_SPEED); room(n).speeds + PAST],
         }
     }
 
     /// The study that the tests of the book begin with.
     pub fn started() -> Lent {
-        let mut lent = Lent::free();
+        let mut lent = Lent::free(3);
         let lists: [&[u64]; 3] = [&COUNTS, &SPEEDS, &QUEUES];
         assert_eq!(lent.start(&networks::three_segments(), lists), 0);
         lent
@@ -39,7 +39,7 @@ impl Lent {
 
     /// The study of the listing.
     pub fn tallies() -> Lent {
-        let mut lent = Lent::free();
+        let mut lent = Lent::free(1);
         let lists: [&[u64]; 3] = [&[20_000], &[90_000], &[5_000]];
         assert_eq!(lent.start(&networks::tallies(), lists), 0);
         lent
@@ -72,10 +72,10 @@ impl Lent {
         (self.words.clone(), speeds.collect())
     }
 
-    /// No word and no bit past what three segments need has changed.
+    /// No word and no bit past what the segments need has changed.
     pub fn assert_past(&self) {
         let (words, speeds) = self.bits();
-        assert_eq!(words[ROOM.words..], [FREE; PAST]);
-        assert_eq!(speeds[ROOM.speeds..], [FREE_SPEED; PAST]);
+        assert_eq!(words[words.len() - PAST..], [FREE; PAST]);
+        assert_eq!(speeds[speeds.len() - PAST..], [FREE_SPEED; PAST]);
     }
 }

@@ -2,6 +2,9 @@
 
 mod arrays;
 mod file;
+mod junction;
+mod junction_file;
+mod junction_sound;
 mod laid;
 mod lent;
 mod lines;
@@ -14,3 +17,4 @@ mod step_in_arrays;
 mod study;
 mod survey;
 mod worked;
+mod worked_junction;

@@ -4,7 +4,7 @@
 
 use crate::networks;
 use oracle::case::{Case, SegmentState, Sign};
-use oracle::network::{Curve, Network, Origin};
+use oracle::network::{chain, Curve, Network, Origin};
 use oracle::step::origin::{bound, limiting_speed, speed_bound};
 use oracle::step::step;
 
@@ -122,7 +122,7 @@ fn the_least_of_three() {
 #[test]
 fn other_segments() {
     let mut network = with(falling());
-    network.segments = vec![network.segments[0].clone(); 3];
+    network.segments = chain(vec![network.segments[0].clone(); 3]);
     network.segments[2].origin = false;
     network.segments[2].most_released = 0;
     let kinds = [Origin::Mainstream, Origin::Ramp, Origin::None];
@@ -146,7 +146,7 @@ fn other_segments() {
 #[test]
 fn a_step_with_both() {
     let mut network = with(falling());
-    network.segments = vec![network.segments[0].clone(); 2];
+    network.segments = chain(vec![network.segments[0].clone(); 2]);
     let queues = [10_000, 10_000];
     let mut case = Case::start(&network, &[180_000, 120_000], &[1_500, 1_500], &queues);
     step(&network, &mut case, &[0, 0]);

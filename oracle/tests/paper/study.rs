@@ -7,10 +7,16 @@ use oracle::file;
 use oracle::network::Network;
 
 /// Exactly the room for three segments.
-pub const ROOM: Lengths = Lengths {
-    words: 2560 + 7 * (16 * 3 + 8) + 16,
-    speeds: 7 * 3,
-};
+pub const ROOM: Lengths = room(3);
+
+/// Exactly the room for n segments.
+pub const fn room(n: usize) -> Lengths {
+    Lengths {
+        words: 2560 + 7 * (16 * n + 8) + 16,
+        speeds: 7 * n,
+    }
+}
+
 /// mv, m/h and mv at the start.
 pub const COUNTS: [u64; 3] = [45_000, 61_007, 70_011];
 pub const SPEEDS: [u64; 3] = [88_000, 71_000, 64_000];

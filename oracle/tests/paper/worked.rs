@@ -6,25 +6,25 @@ use crate::lent::Lent;
 use crate::study::{ask, start, ROOM};
 use oracle::book::{Call, Figures, Question};
 use oracle::case::{Alinea, Setting};
-use oracle::network::{Network, Segment};
+use oracle::network::{chain, Followers, Network, Segment};
 
 const MVS: [u64; 3] = [120_000, 54_943, 40_520];
 const INITIAL_SPEEDS: [u64; 3] = [93_582, 41_089, 69_218];
 const QUEUES: [u64; 3] = [200_000, 70_000, 1_000];
 
 /// One step, with what is set before it and what reports give after it.
-struct Worked {
-    set: &'static [Call<'static>],
-    arrivals: [u32; 3],
+pub struct Worked<const N: usize> {
+    pub set: &'static [Call<'static>],
+    pub arrivals: [u32; N],
     /// Steps, segments, queues, arrivals, exits, time.
-    case: [u64; 6],
+    pub case: [u64; 6],
     /// Of each segment N, s, bits of v, w, last outflow, last release, R.
-    segments: [[u64; 7]; 3],
+    pub segments: [[u64; 7]; N],
 }
 
 // A line a segment, as it was worked out.
 #[rustfmt::skip]
-const LIST: [Worked; 5] = [
+const LIST: [Worked<3>; 5] = [
     Worked {
         set: &[alinea(3, [30, 1_427, 900, 2])],
         arrivals: [9_000, 2_500, 700],
@@ -89,8 +89,10 @@ fn network() -> Network {
         origin: true,
         exit_share,
         most_released,
+        followers: Followers::NONE,
     };
     Network {
+        version: 1,
         step: 10,
         relaxation: 18,
         anticipation: 60,
@@ -99,11 +101,11 @@ fn network() -> Network {
         curves: vec![std::array::from_fn(|density| {
             100_000 - 450 * density as u32
         })],
-        segments: vec![
+        segments: chain(vec![
             segment(500, 0, 30_000),
             segment(800, 150, 60_000),
             segment(600, 0, 30_000),
-        ],
+        ]),
     }
 }
 
@@ -118,7 +120,7 @@ fn the_worked_list_in_the_book() {
 
 #[test]
 fn the_worked_list_in_arrays() {
-    let mut lent = Lent::free();
+    let mut lent = Lent::free(3);
     assert_eq!(lent.start(&network(), [&MVS, &INITIAL_SPEEDS, &QUEUES]), 0);
     for worked in &LIST {
         worked.take(|call| lent.call(call));
@@ -126,9 +128,9 @@ fn the_worked_list_in_arrays() {
     lent.assert_past();
 }
 
-impl Worked {
+impl<const N: usize> Worked<N> {
     /// Makes the step, and asks for every figure.
-    fn take(&self, mut call: impl FnMut(&Call) -> Result<Figures, u8>) {
+    pub fn take(&self, mut call: impl FnMut(&Call) -> Result<Figures, u8>) {
         let arrivals = &self.arrivals;
         for item in self.set.iter().chain([&Call::Step { arrivals }]) {
             assert_eq!(call(item), Ok(vec![]));
@@ -141,7 +143,7 @@ impl Worked {
     }
 }
 
-const fn sign(segment: u64, limit: u64, compliance: i64) -> Call<'static> {
+pub const fn sign(segment: u64, limit: u64, compliance: i64) -> Call<'static> {
     Call::Sign {
         segment,
         limit,
@@ -155,7 +157,7 @@ const fn fixed(segment: u64, rate: u64) -> Call<'static> {
 }
 
 /// Target, gain, least and interval.
-const fn alinea(segment: u64, [target, gain, least, interval]: [u64; 4]) -> Call<'static> {
+pub const fn alinea(segment: u64, [target, gain, least, interval]: [u64; 4]) -> Call<'static> {
     let setting = Setting::Alinea(Alinea {
         target,
         gain,

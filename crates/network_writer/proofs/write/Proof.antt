@@ -1,10 +1,11 @@
 -- The head, then the entries, then the records, one after the other.
-use Prim.Native.Nat.{_≤_}
+use Prim.Native.Nat.{ℕ, _*_, _≤_}
+use mathlib.Core.Path.{_≡_, ap}
 use native.Mathlib.Omega.{arith}
 use lib.ListN.{length}
 use denote.Ref.{now}
 use borrow.Author.Needs.{needs}
-use Rattle.format.specs.File.{fileSize}
+use Rattle.format.specs.File.{recordSize, fileSize}
 use Rattle.format.proofs.Accepted.{Kept}
 use Rattle.format.proofs.Keeping.{kept-head}
 use Rattle.network_writer.proofs.Writing.{written-by}
@@ -18,26 +19,36 @@ kept c = rw (c .kept-head .ensures) (kept-head _ (c .before .before .before .pre
 room : (c : tie.After-kept-head) → fileSize (c .kept-head .result) ≤ length (now (c .before .before .before .args .out))
 room c = rw (c .kept-head .ensures) (c .before .before .before .pre .1)
 
--- where the head was read, from where it was written
-abbrev head : tie.After-slice-known2 → tie.After-kept-head
-head c = c .before .before .before .before
+-- the bytes of all records
+width : (c : tie.After-record-size) → let h = c .before .kept-head .result in c .record-size .result * h .size ≡ recordSize h * h .size
+width c = ap (λ (w : ℕ). w * c .before .kept-head .result .size) (c .record-size .ensures .0)
+
+-- where the width was found, from where the head was written
+abbrev sized : tie.After-slice-known2 → tie.After-record-size
+sized c = c .before .before .before .before
 
 returns : tie.Need-returns
 returns c =
     let entries = c .before .before .before .before .before .before in
     let put = entries .before .before .before .before in
-    let read = put .before .before in
-    written-by _ _ _ (read .kept-head .ensures) _ _ _ (put .put-head .ensures) (entries .put-entries .ensures) (c .before .before .put-segments .ensures)
+    let size = put .before .before in
+    written-by _ _ _ (size .before .kept-head .ensures) _ (size .record-size .ensures .0) _ _ _
+    (put .put-head .ensures) (entries .put-entries .ensures) (c .before .before .put-records .ensures)
+
+put-records-requires : tie.Need-put-records-requires
+put-records-requires c κs =
+    let s = sized (c .before .before .before .before .before) in
+    let k = kept (s .before) in
+    (k .within .size-high, s .record-size .ensures .1, omega (arith, room (s .before), width s), omega (arith, k))
 
 pub write-spec : {M : Type 1} → statement M
 write-spec =
     tie.close
     (tie.spec
-    (λ c κs. search needs)
-    (λ c κs. omega (arith, room (c .before)))
-    (λ c. omega (arith, kept (head c)))
-    (λ c κs. let h = head (c .before) in let k = kept h in (omega (arith, k), omega (arith, k), omega (arith, room h)))
-    (λ c. omega (arith, kept (head (c .before .before .before .before .before))))
-    (λ c. omega (arith, kept (head (c .before .before .before .before .before))))
-    (λ c κs. let h = head (c .before .before .before .before .before) in let k = kept h in (k .within .size-high, omega (arith, room h), omega (arith, k)))
-    (λ c. search needs) returns)
+    (λ c κs. search needs) (λ c κs. search needs)
+    (λ c κs. omega (arith, room (c .before .before)))
+    (λ c. omega (arith, kept (sized c .before)))
+    (λ c κs. let h = sized (c .before) .before in let k = kept h in (omega (arith, k), omega (arith, k), omega (arith, room h)))
+    (λ c. omega (arith, kept (sized (c .before .before .before .before .before) .before)))
+    (λ c. omega (arith, kept (sized (c .before .before .before .before .before) .before)))
+    put-records-requires (λ c. search needs) returns)

@@ -1,11 +1,15 @@
 -- Not sound, refused by the buffer's length, or written.
-use mathlib.Core.Path.{_≡_, sym, _∙_}
+use mathlib.Core.Path.{_≡_, sym, ap, _∙_}
 use mathlib.Core.Bool.{true}
+use native.Mathlib.Nat.{le-trans, le-of-eq}
 use native.Mathlib.Omega.{arith}
 use lib.Seq.{length-take-le}
 use borrow.Author.Needs.{needs}
 use borrow.Author.Tests.{not-true, not-false}
 use Rattle.format.proofs.Accepted.{HeadWithin}
+use Rattle.format.specs.File.{fileSize}
+use Rattle.format.specs.Words.{headIn}
+use Rattle.metanet.specs.Words.{netOf}
 use Rattle.book.specs.Sound.{sound}
 use Rattle.book.proofs.Sounds.{laid, kept}
 use Rattle.reports.proofs.Writing.{write-unsound, write-short, write-answers}
@@ -28,22 +32,25 @@ slice-aggregate-net c =
 within : (c : tie.After-kept-head) → HeadWithin (c .kept-head .result)
 within c = rw (c .kept-head .ensures) (laid _ _ (fine (c .before .before)) .net .head)
 
+said : (c : tie.After-file-size) → c .file-size .result ≡ fileSize (headIn (netOf (c .before .before .before .before .before .before .before .before .args .words .now)))
+said c = c .file-size .ensures ∙ ap fileSize (c .before .kept-head .ensures)
+
 returns-2 : tie.Need-returns-2
 returns-2 c =
-    let head = c .before .before .before in
-    let p = write-short _ _ _ (fine (head .before .before)) (head .kept-head .ensures) (c .if2 .taken) in
+    let size = c .before in
+    let p = write-short _ _ _ (fine (size .before .before .before)) (said size) (c .if2 .taken) in
     (p .answers, p .bytes-are)
 
 write-requires : tie.Need-write-requires
 write-requires c κs =
-    let head = c .before .before .before .before in
-    (kept _ _ (fine (head .before .before)), rw (head .kept-head .ensures) at (c .before .if2 .left))
+    let size = c .before .before in
+    (kept _ _ (fine (size .before .before .before)), le-trans (le-of-eq (sym (said size))) (c .before .if2 .left))
 
 returns-3 : tie.Need-returns-3
 returns-3 c =
     let test = c .before .before .before .before in
-    let head = test .before .before .before in
-    let p = write-answers _ _ _ (fine (head .before .before)) (head .kept-head .ensures) (test .if2 .left) (c .before .before .write .ensures) in
+    let size = test .before in
+    let p = write-answers _ _ _ (fine (size .before .before .before)) (said size) (test .if2 .left) (c .before .before .write .ensures) in
     (p .answers, p .bytes-are)
 
 pub write-spec : {M : Type 1} → statement M
@@ -51,7 +58,4 @@ write-spec =
     tie.close
     (tie.spec
     (λ c κs. search needs) returns slice-aggregate-net (λ c κs. search needs)
-    (λ c. omega (arith, within (c .before))) (λ c. omega (arith, within (c .before)))
-    (λ c. omega (arith, within (c .before .before)))
-    (λ c. omega (arith, within (c .before .before)))
-    returns-2 write-requires (λ c. search needs) returns-3)
+    (λ c κs. within c) returns-2 write-requires (λ c. search needs) returns-3)

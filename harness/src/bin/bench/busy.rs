@@ -4,7 +4,8 @@
 use harness::random::Random;
 use harness::surveys::Day;
 use oracle::case::{Alinea, Case, Setting, Sign};
-use oracle::file::{Curve, Network, Segment};
+use oracle::file::{Curve, Followers, Network, Segment};
+use oracle::network::{chain, Origin};
 
 /// Free speed of the first curve in m/h; each further one is slower.
 const FREE_SPEED: f64 = 102_000.0;
@@ -14,6 +15,8 @@ const EXPONENT: f64 = 1.867;
 
 /// Segments and curves of the roads that are timed.
 pub const ROADS: [(usize, usize); 3] = [(1, 1), (12, 2), (40, 8)];
+/// The same of those with junctions.
+pub const JUNCTIONS: [(usize, usize); 2] = [(12, 2), (40, 8)];
 /// Steps after which the count begins at 0 again.
 pub const LINE_STEPS: u64 = 20_000;
 
@@ -21,16 +24,41 @@ pub const LINE_STEPS: u64 = 20_000;
 /// segments after it.
 pub fn road(segments: usize, curves: usize) -> Network {
     Network {
+        version: 1,
         step: 10,
         relaxation: 18,
         anticipation: 60,
         kappa: 40,
         merging: 12,
         curves: (0..curves).map(curve).collect(),
-        segments: (0..segments)
-            .map(|place| segment(place, segments, curves))
-            .collect(),
+        segments: chain(
+            (0..segments)
+                .map(|place| segment(place, segments, curves))
+                .collect(),
+        ),
     }
+}
+
+/// The same road with junctions, n being a multiple of four: each first of four
+/// segments parts into the second and the third, which meet in the fourth. The
+/// off-ramp is there.
+pub fn junctions(segments: usize, curves: usize) -> Network {
+    let mut network = road(segments, curves);
+    network.version = 2;
+    for (number, segment) in (1..).zip(&mut network.segments) {
+        let end = usize::from(number) == segments;
+        segment.exit_share = if number % 4 == 0 && !end { 75 } else { 0 };
+        segment.followers = match number % 4 {
+            1 => Followers {
+                first: number + 1,
+                second: number + 2,
+                share: 500,
+            },
+            2 => Followers::only(number + 2),
+            _ => segment.followers,
+        };
+    }
+    network
 }
 
 /// Traffic below the critical density. Ramps are open, fixed and ALINEA in
@@ -42,7 +70,7 @@ pub fn traffic(network: &Network) -> Case {
     let mut case = Case::start(network, &counts, &vec![75_000; n], &vec![0; n]);
     let both = case.segments.iter_mut().zip(&network.segments);
     for (place, (state, segment)) in both.enumerate() {
-        if place > 0 && segment.origin {
+        if network.origin(place) == Origin::Ramp {
             state.set_meter(segment, setting(place));
         }
         if place % 3 == 1 {
@@ -101,6 +129,7 @@ fn segment(place: usize, segments: usize, curves: usize) -> Segment {
             true => 5_000,
             false => 0,
         },
+        followers: Followers::NONE,
     }
 }
 

@@ -1,21 +1,23 @@
 //! Rows of the check of a file.
 
-use crate::busy::{self, ROADS};
+use crate::busy::{junctions, road, JUNCTIONS, ROADS};
 use crate::table::Row;
 use harness::engine;
-use oracle::file;
+use oracle::file::{self, Network};
 use std::hint::black_box;
 
 pub fn rows() -> Vec<Row> {
-    ROADS.map(row).into()
+    let chains = ROADS.map(|(n, curves)| row("check", &road(n, curves)));
+    let others = JUNCTIONS.map(|(n, curves)| row("check, junctions", &junctions(n, curves)));
+    chains.into_iter().chain(others).collect()
 }
 
-fn row((n, curves): (usize, usize)) -> Row {
-    let bytes = file::write(&busy::road(n, curves));
+fn row(name: &'static str, network: &Network) -> Row {
+    let bytes = file::write(network);
     let same = bytes.clone();
     Row {
-        name: "check",
-        n,
+        name,
+        n: network.segments.len(),
         filled: None,
         parts: 1,
         engine: Box::new(move || engine::network_check(black_box(&bytes))),

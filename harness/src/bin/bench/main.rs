@@ -6,16 +6,17 @@
 //! its calls on arrays. There the engine reads in place; the oracle makes
 //! typed data of the network and the live case, and its reports read their
 //! case once more. Roads are busy ones of 1, 12 and 40 segments with 1, 2 and
-//! 8 curves. Rows:
+//! 8 curves; those with junctions have a file of version 2. Rows:
 //!
-//! - check: the number of a network file.
+//! - check: the number of a network file. Junctions: of the road below.
 //! - step alone: the one row of unlike work. Engine: Step less the same call
 //!   refused by 16, which reads and judges only. Oracle: the bare step on
 //!   typed data, with nothing read, judged or stored.
 //! - start: Start on a file, over a study with empty slots. The lists are
 //!   numbers of 32 bits for the engine and of 64 for the oracle.
 //! - step: Step. Slow origin: segment 1 shows 40 km/h, so that its origin is
-//!   bounded by speed in every step.
+//!   bounded by speed in every step. Junctions: each first of four segments
+//!   parts into the next two, which meet in the fourth.
 //! - report, segment report: of the live case, or of slot 6 where slots are
 //!   filled; the segment is the last.
 //! - hold recall drop: three calls, each judged, on slot 6. Where slots are

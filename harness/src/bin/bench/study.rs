@@ -9,7 +9,7 @@ mod engine_side;
 mod lent;
 mod oracle_side;
 
-use crate::busy::{self, ROADS};
+use crate::busy::{self, JUNCTIONS, ROADS};
 use crate::table::{Row, Side};
 use lent::{Lent, Work};
 use oracle::book::SLOTS;
@@ -47,7 +47,15 @@ pub fn rows() -> Vec<Row> {
         }
     }
     rows.extend(ROADS.map(slow_origin));
+    rows.extend(JUNCTIONS.map(junctions));
     rows
+}
+
+/// Step on a road that parts and meets.
+fn junctions((n, curves): (usize, usize)) -> Row {
+    let network = busy::junctions(n, curves);
+    let works = [engine_side::step, oracle_side::step];
+    row("step, junctions", &network, 0, works)
 }
 
 /// Step, with the origin of segment 1 bounded by the speed of a sign.

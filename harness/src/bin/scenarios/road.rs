@@ -1,7 +1,7 @@
 //! Network files from published parameters.
 
-use oracle::file::{Curve, Network, Segment};
-use oracle::network::ENTRIES;
+use oracle::file::{Curve, Followers, Network, Segment};
+use oracle::network::{chain, ENTRIES};
 
 /// T of every set-up, in seconds.
 pub const STEP: u64 = 10;
@@ -62,6 +62,7 @@ pub fn plain(length: u16, lanes: u8, critical: u8, jam: u8) -> Segment {
         origin: false,
         exit_share: 0,
         most_released: 0,
+        followers: Followers::NONE,
     }
 }
 
@@ -71,16 +72,17 @@ pub fn put_origin(segment: &mut Segment, capacity: f64) {
     segment.most_released = mv_a_step(capacity);
 }
 
-/// A network of these segments with tau 18 s, nu 60 km²/h and kappa
+/// A chain of these segments with tau 18 s, nu 60 km²/h and kappa
 /// 40 veh/km/lane; delta in thousandths.
 pub fn network(diagram: &Diagram, merging: u16, segments: Vec<Segment>) -> Network {
     Network {
+        version: 1,
         step: STEP as u8,
         relaxation: 18,
         anticipation: 60,
         kappa: 40,
         merging,
         curves: vec![diagram.curve()],
-        segments,
+        segments: chain(segments),
     }
 }

@@ -5,15 +5,18 @@ use super::Scene;
 use crate::calls::{Call, Question, RUN_FIGURES};
 use crate::cases::{arrivals, spoil_arrival, spoil_length};
 use crate::damages::{in_turn, SURVEY};
+use crate::draft::{record_length, CURVE, HEAD};
 use crate::random::Random;
 use crate::surveys::{any_survey, Day};
 use oracle::book::SLOTS;
 use oracle::case::Setting;
+use oracle::network::Origin;
 
 impl Scene<'_> {
     /// Bytes of the network's file.
     pub fn file_length(&self) -> usize {
-        16 + 804 * self.network.curves.len() + 16 * self.network.segments.len()
+        let record = record_length(self.network.version);
+        HEAD + CURVE * self.network.curves.len() + record * self.network.segments.len()
     }
 
     pub(super) fn sign(&self, from: &mut Source) -> Call {
@@ -149,9 +152,9 @@ impl Scene<'_> {
     }
 
     fn segment_where(&self, random: &mut Random, ramp: bool) -> Option<u64> {
-        let segments = (1..).zip(&self.network.segments);
-        let fits = segments.filter(|(number, segment)| (*number > 1 && segment.origin) == ramp);
-        one_of(random, fits.map(|(number, _)| number).collect())
+        let places = 0..self.network.segments.len();
+        let fits = places.filter(|&place| (self.network.origin(place) == Origin::Ramp) == ramp);
+        one_of(random, fits.map(|place| place as u64 + 1).collect())
     }
 }
 

@@ -71,7 +71,7 @@ fn any_start(next: &mut dyn FnMut() -> u64, network: &Network) -> Start {
     }
 }
 
-/// A file that one of rows 1 to 8 refuses.
+/// A file that some row refuses.
 fn damaged_file(random: &mut Random) -> Box<[u8]> {
     let damage = in_turn(&FILE, random.number());
     let mut draft = Draft::new(network(random, damage.shape()));

@@ -6,7 +6,7 @@ use crate::calls::{ask_engine, Call, Start};
 use crate::cases::MOST_STEPS;
 use crate::compare::Difference;
 use crate::random::Random;
-use crate::reached::{self, mainstream};
+use crate::reached::{self, junctions, mainstream};
 use crate::stored_case::{total_word, STEPS};
 use crate::study::{case_word, put_case_at, put_study, speeds_for, words_for, RUNS};
 use oracle::book::SLOTS;
@@ -66,6 +66,7 @@ impl Line {
             }
             Call::Step(ref arrivals) => {
                 mainstream::note(&self.network, &self.case, arrivals);
+                junctions::note(&self.network, &self.case, arrivals);
                 step::step(&self.network, &mut self.case, arrivals);
                 self.expected.words[RUNS] += 1;
             }

@@ -1,82 +1,53 @@
--- The record is read as s; row 7 is the fields' test or the padding's, and row 8 is asked where it passes.
-use mathlib.Core.Path.{_≡_, sym, ap, _∙_}
+-- The record is read as s, and s is judged.
+use Prim.Native.Nat.{_+_, _-_, _≤_}
+use mathlib.Core.Path.{refl, ap, _∙_}
 use mathlib.Core.Bool.{_||_}
 use native.Mathlib.Omega.{arith}
 use denote.Ref.{now}
-use Prim.Native.Nat.{ℕ}
-use Rattle.laws.specs.Lists.{part}
-use Rattle.laws.proofs.Tests.{or-left}
-use Rattle.laws.proofs.Lists.{span}
-use Rattle.format.specs.Network.{segmentBad, tooFast}
-use Rattle.format.specs.File.{recordNumber, recordPadding, recordStart, segmentAt, entryAt, curveStart}
-use Rattle.format.proofs.Accepted.{SegmentWithin}
-use Rattle.format.proofs.Rows.{segment-within, field-refused, speed-refused, speed-passed}
-use Rattle.format.proofs.File.{segment-lent, padding-part}
+use lib.ListN.{length}
+use borrow.Author.Tests.{eq-eqb}
+use Rattle.format.specs.declared.Segment.{Segment}
+use Rattle.format.specs.Network.{segmentBad, recordRows}
+use Rattle.format.specs.File.{recordNumber, recordPadding, recordSize, followingOf, segmentAt, entryAt, curveStart}
+use Rattle.format.proofs.File.{padding-part, record-low, record-ends}
 use borrow.Author.Needs.{needs}
 use Rattle.network.proofs.records.record_row.Statement.{statement}
 use Rattle.network.proofs.records.record_row.Tie as tie
 
--- s, which was read in the record's part, is what stands in the file
-read :
-    (c : tie.After-read-fields) →
-    let a = c .before .before .before .args in
-    c .read-fields .result ≡ segmentAt (now (a .file)) (recordStart (a .h) (a .i))
-read c =
-    let a = c .before .before .before .args in
-    c .read-fields .ensures ∙ segment-lent (now (a .file)) (recordStart (a .h) (a .i))
+-- the record ends within the file
+ends : (c : tie.After-start) → let a = c .before .before .args in c .start .result + recordSize (a .h) ≤ length (now (a .file))
+ends c =
+    let s = c .before .before in
+    rw (c .start .ensures .0) (record-ends (s .args .h) (now (s .args .file)) (s .pre .0) (s .args .i) (s .pre .1))
 
--- the value of row 7's test
-fields :
-    (c : tie.After-record-padding) →
-    let a = c .before .before .before .before .before .args in
-    let at = recordStart (a .h) (a .i) in
-    (segmentBad (a .h) (a .i) (segmentAt (now (a .file)) at) || recordPadding (now (a .file)) at) ≡ (c .before .segment-bad .result || c .record-padding .result)
-fields c =
-    let a = c .before .before .before .before .before .args in
-    let at = recordStart (a .h) (a .i) in
-    let zeros = c .record-padding .ensures ∙ ap (λ (k : ℕ). recordPadding (part at k (now (a .file))) 0) (span at 16) ∙ sym (padding-part (now (a .file)) at) in
-    sym (rw (c .before .segment-bad .ensures, zeros, read (c .before .before)))
+read-record-requires : tie.Need-read-record-requires
+read-record-requires c κs = let s = c .before .before in (omega (arith, s .pre .1, s .pre .0 .within .size-high), ends c)
 
-within :
-    (c : tie.Else1) →
-    let a = c .before .before .before .before .before .before .args in
-    SegmentWithin (a .h) (a .i) (c .before .before .before .read-fields .result)
-within c =
-    segment-within _ _ _ (sym (c .before .before .segment-bad .ensures) ∙ or-left _ (c .before .record-padding .result) (c .if1 .left))
-
--- the value of row 8's test
-speed :
-    (c : tie.After-too-fast) →
-    let a = c .before .before .before .before .before .before .before .before .args in
-    let s = segmentAt (now (a .file)) (recordStart (a .h) (a .i)) in
-    tooFast (a .h) (entryAt (now (a .file)) (curveStart (s .curve)) 0) s ≡ c .too-fast .result
-speed c = sym (rw (c .too-fast .ensures, c .before .entry .ensures .0, read (c .before .before .before .before .before)))
+-- in version 1 what was read to follow is the chain
+judged-requires : tie.Need-judged-requires
+unfolding followingOf
+judged-requires c κs =
+    let b = c .before .before in
+    let s = b .before .before .before in
+    (s .pre .0 .within, (omega (arith, s .pre .0 .long), (s .pre .1, λ one. ap (λ (r : Segment). r .following) (b .read-record .ensures) ∙ rw (eq-eqb _ _ one) refl)))
 
 returns : tie.Need-returns
 unfolding recordNumber
-returns c = field-refused _ _ _ _ (fields (c .before) ∙ c .if1 .taken)
-
-too-fast-requires : tie.Need-too-fast-requires
-too-fast-requires c κs =
-    (c .before .before .before .before .before .before .before .pre .0 .within .step-high, c .entry .ensures .1, within (c .before) .metres-high)
-
-returns-2 : tie.Need-returns-2
-unfolding recordNumber
-returns-2 c =
-    let c1 = c .before .before .before in
-    speed-refused _ _ _ _ (fields (c1 .before) ∙ c1 .if1 .left) (speed (c .before) ∙ c .if2 .taken)
-
-returns-3 : tie.Need-returns-3
-unfolding recordNumber
-returns-3 c =
-    let c1 = c .before .before .before in
-    speed-passed _ _ _ _ (fields (c1 .before) ∙ c1 .if1 .left) (speed (c .before) ∙ c .if2 .left)
+returns c =
+    let b = c .before .before .before in
+    let a = b .before .before .before .args in
+    let at = b .before .start .result in
+    let begins = b .before .start .ensures .0 in
+    let s = b .read-record .ensures ∙ ap (segmentAt (now (a .file)) (a .h) (a .i)) begins in
+    let z = c .before .record-padding .ensures ∙ padding-part (now (a .file)) at (at + 16 - at) (omega arith) ∙ ap (recordPadding (now (a .file))) begins in
+    c .judged .ensures
+    ∙ (λ j. recordRows (segmentBad (a .h) (a .i) (s j) || z j) (a .h) (a .i) (entryAt (now (a .file)) (curveStart (s j .curve)) 0) (s j))
 
 pub record-row-spec : {M : Type 1} → statement M
 record-row-spec =
     tie.close
     (tie.spec
-    (λ c. search needs) (λ c. search needs) (λ c. search needs) (λ c. search needs) (λ c. search needs) (λ c. search needs)
-    (λ c. search needs) (λ c. search needs) (λ c κs. search needs) (λ c κs. search needs) (λ c κs. search needs) returns
-    (λ c. omega (arith, within c)) (λ c. omega (arith, within c)) (λ c κs. omega (arith, within c)) too-fast-requires
-    returns-2 returns-3)
+    (λ c κs. let s = c .before in (s .pre .0 .within, s .pre .1))
+    read-record-requires (λ c. search needs) (λ c. search needs) (λ c. search needs)
+    (λ c. omega (arith, ends (c .before), record-low (c .before .before .before .args .h)))
+    (λ c κs. search needs) judged-requires returns)

@@ -36,9 +36,9 @@ const fn pair(name: &'static str, apply: Apply) -> Damage<Stored> {
     damage(name, 27, Part::FollowedRecord, apply)
 }
 
-/// In a study of version 1.
+/// In a study of version 1: row 7, since its words must hold the chain.
 const fn chain(name: &'static str, apply: Apply) -> Damage<Stored> {
-    damage(name, 27, Part::ChainRecord, apply)
+    damage(name, 7, Part::ChainRecord, apply)
 }
 
 pub const DAMAGES: &[Damage<Stored>] = &[
@@ -108,7 +108,7 @@ pub const DAMAGES: &[Damage<Stored>] = &[
     }),
     damage(
         "a chain that parts and meets",
-        27,
+        7,
         Part::LaterChainRecord,
         |stored, record, random| {
             // Sound as version 2: the segment before it may also pass it by.
@@ -126,7 +126,7 @@ pub const DAMAGES: &[Damage<Stored>] = &[
     ),
     damage(
         "a chain that ends early",
-        27,
+        7,
         Part::LaterChainRecord,
         end_before,
     ),

@@ -64,8 +64,9 @@ uint64_t survey_write(uint64_t n, const uint32_t *arrivals, size_t arrivals_len,
  * these lengths are never changed. Segments count from 1. Case 0 is the live case, 1 to 6 are the slots. Every call
  * but study_start first answers 12 where the arrays do not hold a sound study; one of another arrangement is not sound.
  *
- * Signs, settings, R and the count of steps belong to the case, so that study_hold and study_recall carry them. To be
- * able to come back to the start case, hold it before the first variant: study_hold right after study_start. */
+ * Signs, settings, R, what ALINEA averages and the count of steps belong to the case, so that study_hold and
+ * study_recall carry them. To be able to come back to the start case, hold it before the first variant: study_hold
+ * right after study_start. */
 
 /* 12 where the arrays do not hold a sound study, or 0. */
 uint64_t study_sound(const uint64_t *words, size_t words_len, const double *speeds, size_t speeds_len);
@@ -83,8 +84,9 @@ uint64_t study_sign(uint64_t *words, size_t words_len, const double *speeds, siz
                     uint64_t limit, int64_t compliance);
 
 /* The setting of a segment's ramp in the live case: open; fixed at a rate in mv a step; ALINEA with target in
- * veh/km/lane, gain in mv a step for each veh/km/lane by which density misses the target, least in mv a step, interval
- * in steps. 19 where no segment goes on to this one, as at segment 1, or it has no origin. 12, 17, 19, 20. */
+ * veh/km/lane, gain in mv a step for each veh/km/lane by which the mean density since the rate last moved misses the
+ * target, least in mv a step, interval in steps. The rate begins at Q, and moves in a step whose number on the line,
+ * from 0, interval divides; not in the first step after the setting. 19 where no segment goes on to this one, as at segment 1, or it has no origin. 12, 17, 19, 20. */
 uint64_t study_meter_open(uint64_t *words, size_t words_len, const double *speeds, size_t speeds_len, uint64_t segment);
 uint64_t study_meter_fixed(uint64_t *words, size_t words_len, const double *speeds, size_t speeds_len, uint64_t segment,
                            uint64_t rate);

@@ -2,6 +2,7 @@
 //! turning points often.
 
 mod arrivals;
+mod collected;
 mod figures;
 mod ramps;
 mod still;
@@ -9,13 +10,16 @@ mod still;
 use crate::random::Random;
 pub use arrivals::{arrivals, spoil_arrival, spoil_length};
 pub use figures::sign;
-use oracle::case::{Case, SegmentState, Setting};
+use oracle::case::{Case, Collected, SegmentState, Setting};
 use oracle::file::Network;
 use oracle::network::Origin;
 pub use ramps::{alinea, fixed, set_any};
 
 /// Most mv of any figure, and most mv in all.
 pub const MOST_MV: u64 = 1_000_000_000_000;
+/// Most steps that ALINEA has collected, and most mv in their sum.
+pub const MOST_COLLECTED: u64 = 60;
+pub const MOST_SUM: u64 = MOST_COLLECTED * MOST_MV;
 /// Most time spent, in mv·s.
 pub const MOST_TIME: u64 = 1_000_000_000_000_000_000;
 /// Most steps on a line.
@@ -59,6 +63,7 @@ fn ordinary(random: &mut Random, network: &Network) -> Case {
         time: random.edge(0, MOST_TIME),
     };
     case.steps = steps(random, &case);
+    collected::collect(random, network, &mut case);
     if random.once_in(4) {
         still::still(random, network, &mut case);
     }
@@ -74,6 +79,7 @@ fn state(random: &mut Random, network: &Network, place: usize) -> SegmentState {
         sign: sign(random),
         setting: Setting::Open,
         rate: u64::from(segment.most_released),
+        collected: Collected::default(),
         last_outflow: random.edge(0, MOST_MV),
         last_release: random.edge(0, MOST_MV),
     };
@@ -83,11 +89,6 @@ fn state(random: &mut Random, network: &Network, place: usize) -> SegmentState {
         }
         Origin::Ramp => set_any(random, segment, &mut state),
         _ => {}
-    }
-    if let Setting::Alinea(alinea) = state.setting {
-        if random.once_in(2) {
-            state.count = ramps::near_target(random, segment, &alinea);
-        }
     }
     state
 }

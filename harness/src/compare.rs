@@ -8,6 +8,7 @@ pub mod followed;
 mod lengths;
 mod lines;
 mod lists;
+mod means;
 mod million;
 mod random_bytes;
 mod refused;
@@ -128,6 +129,11 @@ pub const TESTS: &[Test] = &[
         name: "runs",
         inputs: Inputs::Steps(50),
         one: runs::one,
+    },
+    Test {
+        name: "means at their bounds",
+        inputs: Inputs::Steps(5),
+        one: means::one,
     },
     Test {
         name: "tallies",

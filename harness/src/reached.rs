@@ -1,13 +1,17 @@
 //! Which numbers the C functions answered in this run, how runs ended, where
-//! files were refused, and what steps met at a mainstream origin and where
-//! freeways part and meet.
+//! files were refused, and what steps met at a mainstream origin, at ALINEA
+//! ramps, and where freeways part and meet.
 
+mod alinea;
 pub mod junctions;
-pub mod mainstream;
+mod lines;
+mod mainstream;
 pub mod places;
 
 use crate::calls::Answer;
 use crate::engine::Function;
+use oracle::case::Case;
+use oracle::file::Network;
 use std::fmt::Display;
 use std::sync::atomic::{AtomicU64, Ordering};
 
@@ -53,6 +57,13 @@ pub fn note_answer(function: Function, answer: &Answer) {
     ENDED[end].fetch_add(1, Ordering::Relaxed);
 }
 
+/// Counts what a step of this case with these arrivals meets.
+pub fn note_step(network: &Network, case: &Case, arrivals: &[u32]) {
+    mainstream::note(network, case, arrivals);
+    alinea::note(network, case);
+    junctions::note(network, case, arrivals);
+}
+
 /// Prints a line for each function: how often it accepted, and how often each
 /// number refused it. Answers whether everything in the table came up.
 pub fn say() -> bool {
@@ -73,6 +84,7 @@ pub fn say() -> bool {
     complete &= say_ends();
     complete &= places::say();
     complete &= mainstream::say();
+    complete &= alinea::say();
     junctions::say() && complete
 }
 

@@ -7,7 +7,7 @@
 use crate::random::Random;
 use crate::speeds;
 use crate::words::garbage;
-use oracle::case::{Case, SegmentState, Setting, Sign};
+use oracle::case::{Case, Collected, SegmentState, Setting, Sign};
 use oracle::file::Network;
 
 /// Words of a segment's state, and words of totals.
@@ -28,6 +28,8 @@ pub const LEAST: usize = 8;
 pub const INTERVAL: usize = 9;
 pub const LAST_OUTFLOW: usize = 10;
 pub const LAST_RELEASE: usize = 11;
+pub const SUM: usize = 12;
+pub const SUM_STEPS: usize = 13;
 /// Totals: their places after the last state.
 pub const STEPS: usize = 0;
 pub const ARRIVALS: usize = 1;
@@ -48,6 +50,8 @@ const STATE_NAMES: &[&str] = &[
     "z",
     "last outflow",
     "last release",
+    "S",
+    "m",
 ];
 const TOTAL_NAMES: &[&str] = &["steps", "arrivals", "exits", "time"];
 
@@ -132,6 +136,7 @@ fn state_words(state: &SegmentState) -> [u64; STATE_NAMES.len()] {
         Setting::Fixed(_) => (1, [0; 4]),
         Setting::Alinea(ramp) => (2, [ramp.target, ramp.gain, ramp.least, ramp.interval]),
     };
+    let Collected { sum, steps } = state.collected;
     [
         state.count,
         state.queue,
@@ -145,5 +150,7 @@ fn state_words(state: &SegmentState) -> [u64; STATE_NAMES.len()] {
         interval,
         state.last_outflow,
         state.last_release,
+        sum,
+        steps,
     ]
 }

@@ -28,6 +28,8 @@ pub struct SegmentState {
     pub setting: Setting,
     /// R: most mv that the meter lets in per step; Q where open.
     pub rate: u64,
+    /// What an ALINEA ramp averages; nothing at any other.
+    pub collected: Collected,
     /// Outflow of the last step in mv, exit part included.
     pub last_outflow: u64,
     /// Release of the last step, in mv.
@@ -54,17 +56,26 @@ pub enum Setting {
     Alinea(Alinea),
 }
 
-/// ALINEA on density.
+/// ALINEA on the average density of its interval.
 #[derive(Clone, Copy, Debug, PartialEq, Eq)]
 pub struct Alinea {
     /// Density aimed at, in veh/km/lane.
     pub target: u64,
-    /// mv per step for each veh/km/lane that the density is off.
+    /// mv per step for each veh/km/lane that the average is off.
     pub gain: u64,
     /// The rate is never below this, in mv per step.
     pub least: u64,
     /// z: steps from one change of the rate to the next.
     pub interval: u64,
+}
+
+/// Counts of a segment since its ALINEA ramp was set or last moved its rate.
+#[derive(Clone, Copy, Debug, Default, PartialEq, Eq)]
+pub struct Collected {
+    /// S: sum of N before each of these steps, in mv.
+    pub sum: u64,
+    /// m: number of these steps.
+    pub steps: u64,
 }
 
 impl Case {
@@ -78,6 +89,7 @@ impl Case {
             sign: Sign::Dark,
             setting: Setting::Open,
             rate: u64::from(segment.most_released),
+            collected: Collected::default(),
             last_outflow: 0,
             last_release: 0,
         };
@@ -125,9 +137,11 @@ impl SegmentState {
         self.speed as u64
     }
 
-    /// A meter always starts afresh: open and ALINEA begin at R = Q.
+    /// A meter always starts afresh: open and ALINEA begin at R = Q, and
+    /// nothing has been collected.
     pub fn set_meter(&mut self, segment: &Segment, setting: Setting) {
         self.setting = setting;
+        self.collected = Collected::default();
         self.rate = match setting {
             Setting::Fixed(rate) => rate,
             Setting::Open | Setting::Alinea(_) => u64::from(segment.most_released),

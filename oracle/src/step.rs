@@ -1,10 +1,12 @@
 //! One step of a case.
 //!
-//! Whole figures are those of a sound study: at most 10¹² mv, so that every
-//! product below fits 64 bits and every figure made binary64 is exact.
+//! Whole figures are those of a sound study: at most 10¹² mv, and S at most
+//! 60 × 10¹², so that every product below fits 64 bits and every figure made
+//! binary64 is exact.
 
 pub mod entering;
 pub mod flows;
+pub mod metering;
 pub mod origin;
 pub mod speed;
 
@@ -63,6 +65,7 @@ fn hand_on(followers: Followers, flows: &Flows, speed: f64, entering: &mut [Ente
 /// from others, in mv.
 fn settle(state: &mut SegmentState, flows: &Flows, arrival: u64, passed_on: u64) {
     state.rate = flows.rate;
+    state.collected = flows.collected;
     state.queue = state.queue + arrival - flows.release;
     state.count = state.count + flows.release + passed_on - flows.outflow;
     state.last_outflow = flows.outflow;

@@ -15,6 +15,8 @@ const STATE_WORDS: usize = 16;
 const TOTALS_WORDS: usize = 8;
 /// Most mv that any figure of a sound case says, and most mv in all.
 const MOST_MV: u64 = 1_000_000_000_000;
+/// Most steps that an ALINEA ramp has collected in a sound case.
+const MOST_COLLECTED: u64 = 60;
 /// Most time spent of a sound case, in mv·s.
 const MOST_TIME: u64 = 1_000_000_000_000_000_000;
 
@@ -48,8 +50,8 @@ pub(crate) fn sound(network: &Network, words: &[u64], speeds: &[f64]) -> bool {
     present.is_some_and(|present| totals_sound(totals(words), present))
 }
 
-/// Puts what a step changes: counts, queues, rates, last flows, speeds and
-/// totals.
+/// Puts what a step changes: counts, queues, rates, last flows, S and m, speeds
+/// and totals.
 pub(crate) fn put_step(case: &Case, words: &mut [u64], speeds: &mut [f64]) {
     for (place, state) in case.segments.iter().enumerate() {
         state::put_step(state, &mut words[STATE_WORDS * place..]);
@@ -74,7 +76,7 @@ pub(crate) fn put_sign(case: &Case, place: usize, words: &mut [u64]) {
     state::put_sign(case.segments[place].sign, words);
 }
 
-/// Puts the setting and the rate of a segment (from 0).
+/// Puts the setting, the rate, S and m of a segment (from 0).
 pub(crate) fn put_setting(case: &Case, place: usize, words: &mut [u64]) {
     state::put_setting(&case.segments[place], &mut words[STATE_WORDS * place..]);
 }

@@ -14,7 +14,7 @@
 #define WORDS (2576 + 7 * (16 + 8))
 #define SPEEDS 7
 #define DAY_BYTES (8 + 4 * 2)   /* a survey file of two rows of one arrival */
-#define ARRANGEMENT 2           /* the number of this arrangement */
+#define ARRANGEMENT 3           /* the number of this arrangement */
 #define ARRANGEMENT_AT 2575     /* its word */
 #define START 2                 /* the slot of the start case */
 #define EMPTY 3                 /* a slot that stays empty */

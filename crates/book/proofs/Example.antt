@@ -16,7 +16,7 @@ use Rattle.survey_file.specs.Written.{headBytes, surveyOf}
 use Rattle.metanet.specs.Case.{Case}
 use Rattle.metanet.specs.Marked.{tallies}
 use Rattle.metanet.specs.Speed.{keep, newSpeed}
-use Rattle.metanet.specs.Step.{signOf, rateOf, stepOn}
+use Rattle.metanet.specs.Step.{signOf, rateOf, moves, stepOn}
 use Rattle.metanet.specs.Sound.{arrivalNumber, stepNumber}
 use Rattle.book.specs.Question.{accepted, questionNumber, figuresAsked, figuresFor}
 use Rattle.metanet.specs.Start.{startState, startCase, startSegmentNumber, startNumber}
@@ -45,7 +45,7 @@ unfolding oneSegment startNumber startSegmentNumber row firstOf first anyOf
 lists-taken = refl
 
 in-book : (words speeds : ℕ) → answers (enterAny words speeds) calls (started tallies (startOf tallies)) ≡ expected
-unfolding answers answered hasBefore enterAny enterRun runRows unlessStopped surveyNumber rowsIn rowOn surveyOf headBytes parts u32Bytes table enter entered unless refusal itemNumber slotRefusal questionRefusal questionNumber answerOf figuresAsked figuresFor caseFigures segmentFigures oneSegment startCase startState stepsOf caseOf change stepNumber arrivalNumber row first firstOf anyOf stepOn newSpeed keep signOf rateOf sumOf add sub mul div lt le ofInt toUnsigned toBits
+unfolding answers answered hasBefore enterAny enterRun runRows unlessStopped surveyNumber rowsIn rowOn surveyOf headBytes parts u32Bytes table enter entered unless refusal itemNumber slotRefusal questionRefusal questionNumber answerOf figuresAsked figuresFor caseFigures segmentFigures oneSegment startCase startState stepsOf caseOf change stepNumber arrivalNumber row first firstOf anyOf stepOn newSpeed keep signOf rateOf moves sumOf add sub mul div lt le ofInt toUnsigned toBits
 in-book words speeds = refl
 
 pub tallies-answers : TalliesAnswers

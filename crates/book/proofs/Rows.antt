@@ -1,17 +1,19 @@
--- What a row of a run meets: an accepted step leaves all that judges a study but the totals of its live case.
-use Prim.Native.Nat.{ℕ, _+_, _*_, _≤_, _<_}
+-- What a row of a run meets: an accepted step leaves all that judges a study but S, m and the totals of its live case.
+use Prim.Native.Nat.{ℕ, zero, suc, _+_, _*_, _≤_, _<_}
 use mathlib.Core.Path.{_≡_, refl, sym, ap, _∙_, subst}
-use mathlib.Core.Bool.{Bool, true, false, _||_, not}
+use mathlib.Core.Bool.{true, false, _||_, not}
 use mathlib.Core.List.{List}
+use native.Mathlib.Nat.{le-trans}
 use native.Mathlib.Omega.{arith}
 use lib.Dec.{ltb, eqb}
 use lib.ListN.{length, getD}
 use lib.Ieee.{Float}
-use borrow.Author.Tests.{leb-false, le-ltb, eqb-true, ne-eqb}
+use borrow.Author.Tests.{leb-false, le-ltb, eqb-true, eq-eqb, ne-eqb}
 use Rattle.laws.specs.First.{row, first, firstOf}
 use Rattle.laws.specs.Sums.{sumOf}
 use Rattle.laws.proofs.First.{row-passed, row-later, row-skipped, first-zero-left, first-zero-right, firstOf-ext}
 use Rattle.laws.proofs.Lists.{length-table}
+use Rattle.laws.proofs.Sums.{sum-term}
 use Rattle.laws.proofs.Tests.{or-right}
 use Rattle.format.specs.Network.{networkFrom, entryOf, segmentOf}
 use Rattle.format.specs.Words.{headIn, entryIn, segmentIn, networkIn, keptNumber}
@@ -21,17 +23,18 @@ use Rattle.metanet.specs.Line.{stepped, change}
 use Rattle.metanet.specs.Sound.{totalsBad, caseNumber}
 use Rattle.metanet.specs.Step.{vehiclesIn, stepState, stepStates, stepOn}
 use Rattle.metanet.specs.Words.{netOf, caseIn}
+use Rattle.metanet.proofs.InWords.{meanNumber, meanNumberIn}
 use Rattle.metanet.proofs.Ready.{vehiclesAt}
 use Rattle.metanet.proofs.SameNetwork.{case-number-from, step-number-from, step-from}
-use Rattle.metanet.proofs.SoundLaws.{vehicles-sum}
-use Rattle.metanet.proofs.StepSound.{caseBad, case-within, total-within, held-le, step-judged}
+use Rattle.metanet.proofs.SoundLaws.{vehicles-sum, means-first}
+use Rattle.metanet.proofs.StepSound.{judgedAgain, case-again, total-within, held-le, step-judged}
 use Rattle.book.specs.Arrangement.{slots, caseWord, caseSpeed, wordsFor, speedsFor, arrangement, networkAt, sizeAt, runCountAt, arrangementAt, caseAt}
 use Rattle.book.specs.Sound.{runsMost, caseNumberAt, slotNumber, casesNumber, soundNumber, sound}
 use Rattle.book.specs.Calls.{item}
 use Rattle.book.specs.Refusal.{refusal, itemNumber}
 use Rattle.book.specs.Perform.{Arrays, lent, refusalAt, stored}
 use Rattle.book.proofs.Laid.{Laid}
-use Rattle.book.proofs.Judging.{cases-judged}
+use Rattle.book.proofs.Judging.{cases-judged, size-high}
 use Rattle.book.proofs.Sounds.{kept, laid, live-sound}
 use Rattle.book.proofs.Stored.{Stored, studyWord, withWord}
 use Rattle.book.proofs.ItemStore.{item-stored}
@@ -41,21 +44,23 @@ use Rattle.book.proofs.Performing.{judged, accepted-sound}
 pub live-word : (n : ℕ) → caseWord n 0 ≡ 2576
 live-word n = omega arith
 
--- the totals of the live case of a study of n segments pass their bounds
-abbrev totalsBadAt : List ℕ → ℕ → ℕ → Bool
-totalsBadAt words n at =
+-- 12 where S or m of a ramp, or the totals, of the case of n segments at place at pass their bounds
+abbrev againAt : List ℕ → ℕ → ℕ → ℕ
+againAt words n at =
     let e = at + 16 * n in
-    totalsBad (sumOf (vehiclesAt words at) n) (getD words e 0) (getD words (e + 1) 0) (getD words (e + 2) 0) (getD words (e + 3) 0)
+    first (firstOf (meanNumberIn words at) n)
+    (row (totalsBad (sumOf (vehiclesAt words at) n) (getD words e 0) (getD words (e + 1) 0) (getD words (e + 2) 0) (getD words (e + 3) 0)) 12 0)
 
-abbrev pub liveBad : List ℕ → ℕ → Bool
-liveBad words n = totalsBadAt words n 2576
+-- of the live case of a study of n segments
+abbrev pub liveNumber : List ℕ → ℕ → ℕ
+liveNumber words n = againAt words n 2576
 
--- a study that a row of a run meets: laid out, its mv not much above their bound, and sound exactly where the live case's totals are within
--- their bounds
+-- a study that a row of a run meets: laid out, its mv not much above their bound, and sound exactly where S, m and the totals of the live case
+-- are within their bounds
 pub record RowReady (words : List ℕ) (speeds : List Float) (n : ℕ) : Type 0 where
   pub laid : Laid words speeds n
   pub few : sumOf (vehiclesAt words 2576) n ≤ 2000000000000
-  pub judged : sound words speeds ≡ not (liveBad words n)
+  pub judged : sound words speeds ≡ eqb (liveNumber words n) 0
 
 -- ---- a study that is laid out
 
@@ -68,15 +73,21 @@ module _ {words : List ℕ} {speeds : List Float} {n : ℕ} (at : Laid words spe
       ∙ vehicles-sum words speeds (caseWord n 0) (caseSpeed n 0) n
       ∙ ap (λ (m : ℕ). sumOf (vehiclesIn (caseIn words speeds (caseWord m 0) (caseSpeed m 0) m .states)) n) (at .size)
 
-  live-bad : liveBad words n ≡ caseBad n (caseAt words speeds 0)
+  live-again : liveNumber words n ≡ judgedAgain n (caseAt words speeds 0)
   unfolding caseIn
-  live-bad =
-      ap (totalsBadAt words n) (sym (live-word n))
-      ∙ (λ j. let e = caseWord (at .size j) 0 + 16 * at .size j in
-      totalsBad (held j) (getD words e 0) (getD words (e + 1) 0) (getD words (e + 2) 0) (getD words (e + 3) 0))
+  live-again =
+      ap (againAt words n) (sym (live-word n))
+      ∙ (λ j. let m = at .size j in
+      let e = caseWord m 0 + 16 * m in
+      first (means j) (row (totalsBad (held j) (getD words e 0) (getD words (e + 1) 0) (getD words (e + 2) 0) (getD words (e + 3) 0)) 12 0))
     where
       held : sumOf (vehiclesAt words (caseWord n 0)) n ≡ sumOf (vehiclesIn (caseAt words speeds 0 .states)) n
       held = ap (λ (p : ℕ). sumOf (vehiclesAt words p) n) (live-word n) ∙ live-held
+
+      means : firstOf (meanNumberIn words (caseWord n 0)) n ≡ firstOf (meanNumber (caseAt words speeds 0 .states)) n
+      means =
+          means-first words speeds (caseWord n 0) (caseSpeed n 0) n
+          ∙ ap (λ (m : ℕ). firstOf (meanNumber (caseIn words speeds (caseWord m 0) (caseSpeed m 0) m .states)) n) (at .size)
 
   -- 12 of a case, on the network's words
   case-number : (c : Case) → let w = networkAt words in let net = netOf words in
@@ -99,19 +110,27 @@ module _ {words : List ℕ} {speeds : List Float} where
       let at = laid words speeds s in
       let net = netOf words in
       let c = caseAt words speeds 0 in
-      let fine = case-within (headIn net) (entryIn net) (segmentIn net) c (sym (case-number at c) ∙ live-sound words speeds s) in
-      record { laid = at; few = omega (arith, live-held at, total-within (sizeAt words) c fine); judged = s ∙ sym (ap not (live-bad at ∙ fine)) }
+      let fine = sym (case-number at c) ∙ live-sound words speeds s in
+      record {
+        laid = at;
+        few = omega (arith, live-held at, total-within (headIn net) (entryIn net) (segmentIn net) c fine);
+        judged = s ∙ sym (ap (λ (m : ℕ). eqb m 0) (live-again at ∙ case-again (headIn net) (entryIn net) (segmentIn net) c fine));
+      }
 
   -- of n segments
   pub row-sized : {n : ℕ} → n ≡ sizeAt words → sound words speeds ≡ true → RowReady words speeds n
   row-sized e s = subst (RowReady words speeds) (sym e) (row-first s)
 
   module _ {n : ℕ} (r : RowReady words speeds n) where
-    pub row-sound : liveBad words n ≡ false → sound words speeds ≡ true
-    row-sound e = r .judged ∙ ap not e
+    pub row-sound : liveNumber words n ≡ 0 → sound words speeds ≡ true
+    row-sound e = r .judged ∙ eq-eqb _ 0 e
 
-    pub row-unsound : liveBad words n ≡ true → sound words speeds ≡ false
-    row-unsound e = r .judged ∙ ap not e
+    -- what summing up the mv asks
+    pub row-vehicles : ((n ≤ 40) × (2576 + 16 * n ≤ length words)) × ((i : ℕ) → i < n → vehiclesAt words 2576 i ≤ 2000000000000)
+    row-vehicles = ((size-high (r .laid), omega (arith, r .laid .room)), λ i l. le-trans (sum-term (vehiclesAt words 2576) n i l) (r .few))
+
+    pub row-unsound : (liveNumber words n ≡ 0 → ⊥) → sound words speeds ≡ false
+    row-unsound e = r .judged ∙ ne-eqb _ 0 e
 
 -- ---- a row is accepted
 
@@ -162,12 +181,12 @@ module _ {words : List ℕ} {speeds : List Float} {n : ℕ} (ds : List ℕ) (at 
   unfolding change
   live-is = store .written ∙ step-from (headIn net) (entryIn net) (segmentIn net) (at .net) c ds
 
-  live-number : caseNumberAt (z .words) (z .speeds) 0 ≡ row (liveBad (z .words) n) 12 0
+  live-number : caseNumberAt (z .words) (z .speeds) 0 ≡ liveNumber (z .words) n
   live-number =
       (λ j. let w = networkIn (store .net j) in caseNumber (w .head) (entryOf w) (segmentOf w) (live-is j))
       ∙ case-number at new
       ∙ step-judged (at .net) c (sym (case-number at c) ∙ live-sound words speeds s) ds
-      ∙ ap (λ (b : Bool). row b 12 0) (sym (live-bad next-laid ∙ (λ j. caseBad (at .size j) (live-is j))))
+      ∙ sym (live-again next-laid ∙ (λ j. judgedAgain (at .size j) (live-is j)))
 
   next-few : sumOf (vehiclesAt (z .words) 2576) n ≤ 2000000000000
   unfolding stepOn refusal itemNumber
@@ -206,18 +225,18 @@ module _ {words : List ℕ} {speeds : List Float} {n : ℕ} (ds : List ℕ) (at 
   unfolding casesNumber
   slots-zero = firstOf-ext _ _ slots slot-same ∙ first-zero-right (caseNumberAt words speeds 0) _ (row-later _ _ _ cases-zero)
 
-  next-sound : sound (z .words) (z .speeds) ≡ not (liveBad (z .words) n)
+  next-sound : sound (z .words) (z .speeds) ≡ eqb (liveNumber (z .words) n) 0
   unfolding casesNumber
   next-sound =
       ap (λ (m : ℕ). eqb m 0)
       (sym (cases-are next-laid (ap keptNumber (store .net) ∙ kept words speeds s))
       ∙ row-skipped _ _ _ words-fine
-      ∙ (λ j. first (live-number j) (slots-zero j)))
-      ∙ only (liveBad (z .words) n)
+      ∙ (λ j. first (live-number j) (slots-zero j))
+      ∙ first-last (liveNumber (z .words) n))
     where
-      only : (b : Bool) → eqb (first (row b 12 0) 0) 0 ≡ not b
-      only true = unfold first row in refl
-      only false = unfold first row in refl
+      first-last : (m : ℕ) → first m 0 ≡ m
+      first-last zero = unfold first in refl
+      first-last (suc m) = unfold first in refl
 
 -- what the next row meets
 pub row-next : {words : List ℕ} {speeds : List Float} {n : ℕ} (ds : List ℕ) → RowReady words speeds n → refusalAt (item (stepped ds)) (lent words speeds) ≡ 0

@@ -10,7 +10,7 @@ use Rattle.format.specs.Network.{chain, headBad, rising, curveNumber, segmentBa
 use Rattle.metanet.specs.Sound.{arrivalNumber, stepNumber}
 use Rattle.metanet.specs.Start.{startSegmentNumber, startNumber}
 use Rattle.metanet.specs.Line.{stepsOf}
-use Rattle.metanet.specs.Worked.{WorkedStep, WorkedList, WorkedHolds, givenFigures, figuresAlong, startCaseOf, chainNetwork, chainList}
+use Rattle.metanet.specs.Worked.{WorkedStep, WorkedList, WorkedHolds, givenFigures, allFigures, figuresAlong, startCaseOf, chainNetwork, chainList}
 use Rattle.metanet.specs.WorkedJunction.{junctionNetwork, junctionList}
 use Rattle.metanet.proofs.Worked.{chain-holds, junction-holds}
 use Rattle.book.specs.Question.{questionNumber, figuresFor, figuresAsked, Answer, accepted, figures}
@@ -36,12 +36,12 @@ answers-given (k ∷ ks) = ap (λ (l : List Answer). map (λ i. accepted) (k .it
 worked-answered : (l : WorkedList) → networkNumber (l .network) ≡ 0 → Formed (l .network) → startNumber (l .network) (l .mvs) (l .speeds) (l .queues) ≡ 0
     → ((words speeds : ℕ)
     → answers (enterAny words speeds) (map single (workedCalls (l .network .head .size) (l .steps))) (started (l .network) (startCaseOf l))
-    ≡ answersWith (l .steps) (figuresAlong (l .network) (startCaseOf l) [] (l .steps)))
+    ≡ answersWith (l .steps) (figuresAlong allFigures (l .network) (startCaseOf l) [] (l .steps)))
     → WorkedHolds l → WorkedAnswered l
 worked-answered l within formed taken in-book holds a many speeds-many =
     begun-answers (l .network) within formed (l .mvs) (l .speeds) (l .queues) taken a many speeds-many (map single (workedCalls (l .network .head .size) (l .steps)))
     ∙ ap (λ (l : List Answer). accepted ∷ l)
-    (in-book (length (a .words)) (length (a .speeds)) ∙ ap (answersWith (l .steps)) holds ∙ answers-given (l .steps))
+    (in-book (length (a .words)) (length (a .speeds)) ∙ ap (answersWith (l .steps)) (holds .reported) ∙ answers-given (l .steps))
 
 -- ---- the chain and the junction, whatever the cases of the book's lines are
 

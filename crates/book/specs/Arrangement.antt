@@ -30,7 +30,7 @@ marksLength = 16
 
 -- the number of this arrangement: another one is another number
 abbrev pub arrangement : ℕ
-arrangement = 2
+arrangement = 3
 
 -- those words at the start of a study: run count 0, slots empty, the free words 0
 unfoldable pub startMarks : List ℕ

@@ -21,7 +21,7 @@ pub const RUN_WORD: usize = network_words::NETWORK_WORDS;
 
 pub const ARRANGEMENT_WORD: usize = RUN_WORD + 15;
 
-pub const ARRANGEMENT: u64 = 2;
+pub const ARRANGEMENT: u64 = 3;
 
 pub const FIRST_CASE: usize = RUN_WORD + 16;
 
@@ -37,7 +37,7 @@ fn sign_in(w: &[u64]) -> SignSetting
 }
 
 // Its ramp.
-fn ramp_in(w: &[u64]) -> Ramp
+pub fn ramp_in(w: &[u64]) -> Ramp
     requires { ⌜ 16 ≤ length (now w) ⌝ }
     ensures { λ r. ⌜ r ≡ rampIn (now (w .entry)) ⌝ }
 {
@@ -48,6 +48,8 @@ fn ramp_in(w: &[u64]) -> Ramp
         gain: w[7],
         least: w[8],
         interval: w[9],
+        sum: w[12],
+        summed: w[13],
     }
 }
 

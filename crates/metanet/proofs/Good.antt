@@ -1,14 +1,15 @@
 -- What holds of every line of the book on a network w, from the start case s: its case is sound, its totals are those of its items, its
 -- vehicles balance, and its figures are bounded by its steps.
-use Prim.Native.Nat.{_+_, _*_, _≤_}
+use Prim.Native.Nat.{ℕ, _+_, _*_, _≤_, _<_}
 use mathlib.Core.Path.{_≡_}
 use lib.ListN.{length}
 use Rattle.format.specs.Network.{Network, entryOf, segmentOf}
 use Rattle.format.proofs.Accepted.{networkNumber, Formed}
-use Rattle.metanet.specs.Case.{Case}
+use Rattle.metanet.specs.Case.{Case, stateOf}
 use Rattle.metanet.specs.Step.{totalOf}
 use Rattle.metanet.specs.Sound.{caseNumber}
 use Rattle.metanet.specs.Line.{Line, caseOf, stepsOf, arrivalsOf, exitsOf}
+use Rattle.metanet.proofs.Average.{Averaged, sinceMeter}
 
 -- a network that file reading accepts
 pub record GoodNetwork (w : Network) : Type 0 where
@@ -29,3 +30,5 @@ pub record Good (w : Network) (s : Case) (l : Line) : Type 0 where
   pub arrivals-le : arrivalsOf w l ≤ 40000000 * stepsOf l
   -- a step adds at most 60 × (168,000,000 + 40,000,000 × 20,000)
   pub time-le : caseOf w s l .time ≤ 48010080000000 * stepsOf l
+  -- S and m
+  pub averages : (i : ℕ) → i < w .head .size → Averaged (stateOf (caseOf w s l .states) i .ramp) (stepsOf l) (sinceMeter i l)

@@ -1,10 +1,13 @@
 -- A case in the words, as the functions inside read, judge and write it word by word; net is the network's words.
 use Prim.Native.Nat.{ℕ, _+_, _*_}
 use mathlib.Core.List.{List, [], _∷_, _++_}
+use mathlib.Core.Bool.{cond}
+use lib.Dec.{eqb}
 use lib.IntN.{ℤ}
 use lib.ListN.{getD, take, drop, set, replicate}
 use lib.Ieee.{Float}
 use Rattle.laws.specs.Lists.{part, puts}
+use Rattle.laws.specs.First.{row}
 use Rattle.laws.specs.Sums.{sumOf}
 use Rattle.format.specs.Words.{headIn, entryIn, segmentIn}
 use Rattle.metanet.specs.declared.SignSetting.{SignSetting}
@@ -14,7 +17,8 @@ use Rattle.metanet.specs.declared.SegmentState.{SegmentState}
 use Rattle.metanet.specs.declared.Setting.{Setting}
 use Rattle.metanet.specs.Change.{signFor, rampFor}
 use Rattle.metanet.specs.Step.{vehiclesIn, stepState, exitsNow}
-use Rattle.metanet.specs.Sound.{stateNumber, caseNumber, arrivalNumber, stepNumber}
+use Rattle.metanet.specs.Case.{alineaKind, stateOf}
+use Rattle.metanet.specs.Sound.{averageBad, stateNumber, caseNumber, arrivalNumber, stepNumber}
 use Rattle.metanet.specs.Words.{netOf, statesIn, caseIn, putState}
 
 -- ---- the rows that judge a case and a step
@@ -29,6 +33,13 @@ caseNumberIn words speeds at from n =
     let net = netOf words in
     caseNumber (headIn net) (entryIn net) (segmentIn net) (caseIn words speeds at from n)
 
+-- 12, of S and m of state i
+unfoldable pub meanNumber : List SegmentState → ℕ → ℕ
+meanNumber states i = row (averageBad (stateOf states i .ramp .sum) (stateOf states i .ramp .summed)) 12 0
+
+abbrev pub meanNumberIn : List ℕ → ℕ → ℕ → ℕ
+meanNumberIn words at i = row (averageBad (getD words (at + 16 * i + 12) 0) (getD words (at + 16 * i + 13) 0)) 12 0
+
 abbrev pub arrivalNumberIn : List ℕ → List ℕ → ℕ → ℕ
 arrivalNumberIn net ds i = arrivalNumber (headIn net) (entryIn net) (segmentIn net) ds i
 
@@ -39,15 +50,19 @@ stepNumberIn net steps ds = stepNumber (headIn net) (entryIn net) (segmentIn net
 
 -- how many of them are in use; the others are free
 abbrev pub wordsUsed : ℕ
-wordsUsed = 12
+wordsUsed = 14
 
--- its parts, put into the words w; a step puts R alone of the ramp
+-- its parts, put into the words w; of the ramp a step puts R, and S and m where it is ALINEA's
 unfoldable pub putSign : SignSetting → List ℕ → List ℕ
 putSign r w = set (set w 2 (r .limit)) 3 (r .compliance)
 
+unfoldable pub putAverage : Ramp → List ℕ → List ℕ
+putAverage r w = set (set w 12 (r .sum)) 13 (r .summed)
+
 unfoldable pub putRamp : Ramp → List ℕ → List ℕ
+unfolding putAverage
 putRamp r w =
-    set (set (set (set (set (set w 4 (r .kind)) 5 (r .rate)) 6 (r .target)) 7 (r .gain)) 8 (r .least)) 9 (r .interval)
+    putAverage r (set (set (set (set (set (set w 4 (r .kind)) 5 (r .rate)) 6 (r .target)) 7 (r .gain)) 8 (r .least)) 9 (r .interval))
 
 unfoldable pub putRate : Ramp → List ℕ → List ℕ
 putRate r w = set w 5 (r .rate)
@@ -70,8 +85,10 @@ unfolding putRamp
 meteredWords most setting w = putRamp (rampFor most setting) w
 
 unfoldable pub steppedWords : List ℕ → SegmentState → List ℕ
-unfolding putRate putFlows
-steppedWords w r = putFlows (r .flows) (putRate (r .ramp) (set (set w 0 (r .count)) 1 (r .queue)))
+unfolding putRate putFlows putAverage
+steppedWords w r =
+    let made = putFlows (r .flows) (putRate (r .ramp) (set (set w 0 (r .count)) 1 (r .queue))) in
+    cond (eqb (r .ramp .kind) alineaKind) (putAverage (r .ramp) made) made
 
 -- ---- what a step writes: of each state what it makes anew, and its speed
 

@@ -1,3 +1,4 @@
+pub mod Average
 pub mod Balance
 pub mod CaseLaws
 pub mod CaseParts

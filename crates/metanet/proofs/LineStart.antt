@@ -29,8 +29,9 @@ use Rattle.metanet.proofs.SegmentLaws.{segment-ok}
 use Rattle.metanet.proofs.Formed.{within-good}
 use Rattle.metanet.specs.Start.{startState, startCase, startSegmentNumber, startNumber, handed}
 use Rattle.metanet.specs.Line.{caseOf, stepsOf, arrivalsOf, exitsOf}
+use Rattle.metanet.proofs.Average.{sinceMeter, Averaged, averaged-none, average-within}
 use Rattle.metanet.proofs.Good.{GoodNetwork, Good}
-use Rattle.metanet.proofs.CaseSound.{SoundAt, case-sound}
+use Rattle.metanet.proofs.CaseSound.{SoundAt, MeanAt, case-sound}
 use Rattle.metanet.proofs.Lines.{net-within}
 
 module _ (w : Network) (mvs speeds queues : List ℕ) where
@@ -104,13 +105,20 @@ module _ {w : Network} (net : GoodNetwork w) (mvs speeds queues : List ℕ) (z :
         speed = within-good f (real v) (record { low = real-le 1000 v (a .slow) (omega (arith, a .fast, fast)); high = real-le v f (a .fast) (omega (arith, fast)) });
       })
 
+  start-averaged : (i : ℕ) → i < w .head .size → (k : ℕ) → Averaged (stateOf (begun w mvs speeds queues .states) i .ramp) 0 k
+  unfolding startState
+  start-averaged i l k = rw (state-is w mvs speeds queues i l) (averaged-none _ 0 k refl refl)
+
+  start-means : (i : ℕ) → i < w .head .size → MeanAt (begun w mvs speeds queues .states) i
+  start-means i l = average-within _ _ _ (start-sound i l .setting) (start-averaged i l 0)
+
   pub good-begun : Good w (begun w mvs speeds queues) []
   unfolding startCase caseOf stepsOf arrivalsOf exitsOf
   good-begun =
       record {
         net = net;
         many = length-table (startState w mvs speeds queues) (w .head .size);
-        is-sound = case-sound (w .head) (entryOf w) (segmentOf w) (begun w mvs speeds queues) start-sound (omega (arith, start-le)) (omega arith) (omega arith) (omega arith) (omega arith);
+        is-sound = case-sound (w .head) (entryOf w) (segmentOf w) (begun w mvs speeds queues) start-sound start-means (omega (arith, start-le)) (omega arith) (omega arith) (omega arith) (omega arith);
         steps-are = refl;
         arrivals-are = refl;
         exits-are = refl;
@@ -119,6 +127,7 @@ module _ {w : Network} (net : GoodNetwork w) (mvs speeds queues : List ℕ) (z :
         few = omega arith;
         arrivals-le = omega arith;
         time-le = omega arith;
+        averages = λ i l. start-averaged i l (sinceMeter i []);
       }
 
 -- ---- on the network of an accepted file

@@ -1,29 +1,22 @@
 -- A step that its call permits keeps what holds of the line.
-use Prim.Native.Nat.{ℕ, _+_, _*_, _≤_, _<_}
+use Prim.Native.Nat.{ℕ, _+_, _*_, _≤_}
 use native.Mathlib.Nat.{mul-le-mul}
 use native.Mathlib.Omega.{arith}
 use mathlib.Core.Path.{_≡_, refl, sym, _∙_}
 use mathlib.Core.List.{List, [], _∷_, _++_}
-use lib.Dec.{ltb}
-use lib.ListN.{getD}
-use borrow.Author.Tests.{ltb-false, leb-false}
-use Rattle.laws.specs.First.{firstOf}
-use Rattle.laws.specs.Sums.{sumOf}
-use Rattle.laws.proofs.First.{row-passed, row-later, first-zero-left, first-zero-right, firstOf-zero}
 use Rattle.laws.proofs.Lists.{length-table}
-use Rattle.laws.proofs.Sums.{sum-high}
-use Rattle.laws.proofs.Tests.{or-left}
 use Rattle.format.specs.declared.Head.{Head}
-use Rattle.format.specs.declared.Segment.{Segment}
 use Rattle.format.specs.Network.{Network, entryOf, segmentOf}
 use Rattle.format.proofs.Accepted.{RowsWithin}
-use Rattle.metanet.specs.Case.{Case}
+use Rattle.metanet.specs.Case.{Case, stateOf}
 use Rattle.metanet.specs.Step.{stepState, stepStates, stepOn, totalOf}
-use Rattle.metanet.specs.Sound.{arrivalNumber, stepNumber}
-use Rattle.metanet.proofs.StepSound.{came-le, steps-left, moved, new-state}
+use Rattle.metanet.specs.Sound.{stepNumber}
+use Rattle.metanet.proofs.StepSound.{came-le, steps-left, moved, new-state, new-ramp}
+use Rattle.metanet.proofs.Average.{averaged-step}
+use Rattle.metanet.proofs.CaseSound.{case-state}
 use Rattle.metanet.specs.Line.{stepped, Line, change, caseOf, stepsOf, handedIn, letOut}
 use Rattle.metanet.proofs.Good.{Good}
-use Rattle.metanet.proofs.Lines.{net-within, total-le, Changed, good-more}
+use Rattle.metanet.proofs.Lines.{net-within, total-le, Changed, AveragedBy, good-more}
 
 -- ---- the line with the step
 
@@ -54,5 +47,13 @@ module _ {w : Network} {s : Case} {l : Line} (g : Good w s l) (ds : List ℕ) (z
         time = omega (arith, spent);
       }
 
+  -- S and m
+  step-averages : AveragedBy w s l (stepped ds)
+  unfolding change stepOn
+  step-averages k m =
+      let old = case-state h (entryOf w) (segmentOf w) c (g .is-sound) k m in
+      rw (new-ramp within c (g .is-sound) ds k m, g .steps-are)
+      (averaged-step _ _ _ (old .setting) (g .averages k m) (segmentOf w k) (stateOf (c .states) k .count) (old .count))
+
   pub good-step : Good w s (l ++ (stepped ds ∷ []))
-  good-step = good-more g (stepped ds) step-changes (omega (arith, steps-left within ds (stepsOf l) z))
+  good-step = good-more g (stepped ds) step-changes step-averages (omega (arith, steps-left within ds (stepsOf l) z))

@@ -7,9 +7,10 @@ use lib.ListN.{length}
 use Rattle.format.specs.Network.{Network, entryOf, segmentOf}
 use Rattle.format.proofs.Accepted.{RowsWithin}
 use Rattle.format.proofs.Rows.{rows-within}
-use Rattle.metanet.specs.Case.{Case}
+use Rattle.metanet.specs.Case.{Case, stateOf}
 use Rattle.metanet.specs.Step.{totalOf}
 use Rattle.metanet.specs.Sound.{caseNumber}
+use Rattle.metanet.proofs.Average.{sinceItem, sinceMeter, since-snoc, Averaged, average-within}
 use Rattle.metanet.proofs.Good.{GoodNetwork, Good}
 use Rattle.metanet.proofs.CaseSound.{SoundAt, case-sound}
 use Rattle.metanet.specs.Line.{Item, Line, change, caseOf, itemSteps, stepsOf, handedIn, arrivalsOf, letOut, exitsOf}
@@ -51,12 +52,18 @@ pub record Changed (w : Network) (c : Case) (i : Item) : Type 0 where
   pub came : handedIn w i ≤ 40000000 * itemSteps i
   pub time : change w c i .time ≤ c .time + 48010080000000 * itemSteps i
 
+-- and of S and m, on a line with one more item
+abbrev pub AveragedBy : Network → Case → Line → Item → Type 0
+AveragedBy w s l i =
+    (k : ℕ) → k < w .head .size
+    → Averaged (stateOf (change w (caseOf w s l) i .states) k .ramp) (stepsOf l + itemSteps i) (sinceItem k (sinceMeter k l) i)
+
 module _ {w : Network} {s : Case} {l : Line} (g : Good w s l) where
   -- 168,000,000 + 40,000,000 × 20,000
   pub total-le : totalOf w (caseOf w s l) ≤ 800168000000
   total-le = omega (arith, g .balance, g .start-le, g .arrivals-le, g .few)
 
-  module _ (i : Item) (x : Changed w (caseOf w s l) i) (few : stepsOf l + itemSteps i ≤ 20000) where
+  module _ (i : Item) (x : Changed w (caseOf w s l) i) (a : AveragedBy w s l i) (few : stepsOf l + itemSteps i ≤ 20000) where
     abbrev new : Case
     new = change w (caseOf w s l) i
 
@@ -72,6 +79,7 @@ module _ {w : Network} {s : Case} {l : Line} (g : Good w s l) where
     new-sound : caseNumber (w .head) (entryOf w) (segmentOf w) new ≡ 0
     new-sound =
         case-sound (w .head) (entryOf w) (segmentOf w) new (x .states)
+        (λ k l. average-within _ _ _ (x .states k l .setting) (a k l))
         (omega (arith, balanced, came-le, g .start-le))
         (omega (arith, x .steps, g .steps-are))
         (omega (arith, x .arrivals, g .arrivals-are, came-le))
@@ -96,4 +104,5 @@ module _ {w : Network} {s : Case} {l : Line} (g : Good w s l) where
           few = rw steps few;
           arrivals-le = rw (arrivals, steps) came-le;
           time-le = rw (c, steps) spent-le;
+          averages = λ k m. rw (c, steps, since-snoc k l i) (a k m);
         }

@@ -5,13 +5,13 @@ use Rattle.laws.specs.Sums.{sumOf}
 use Rattle.format.specs.Marked.{oneSegment}
 use Rattle.format.proofs.Marked.{speed-limit}
 use Rattle.metanet.specs.Speed.{keep, newSpeed}
-use Rattle.metanet.specs.Step.{signOf, stepOn}
+use Rattle.metanet.specs.Step.{signOf, moves, stepOn}
 use Rattle.metanet.specs.Marked.{MarkedCases, atStart, afterOne, afterTwo, bent}
 use Rattle.metanet.specs.Report.{caseFigures}
 use Rattle.metanet.specs.Start.{startCase}
 
 pub marked : MarkedCases
-unfolding atStart afterOne afterTwo bent caseFigures startCase oneSegment stepOn newSpeed keep signOf sumOf add sub mul div lt le ofInt toUnsigned
+unfolding atStart afterOne afterTwo bent caseFigures startCase oneSegment stepOn moves newSpeed keep signOf sumOf add sub mul div lt le ofInt toUnsigned
 marked =
     record {
       listing-0 = refl;

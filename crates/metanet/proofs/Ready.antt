@@ -60,6 +60,8 @@ pub record RampOk (q : ℕ) (r : Ramp) : Type 0 where
   pub gain : r .gain ≤ 60000
   pub least : r .least ≤ q
   pub interval : r .kind ≡ alineaKind → 0 < r .interval
+  pub sum : r .sum ≤ 60000000000000
+  pub summed : r .summed ≤ 60
 
 pub record StateOk (s : Segment) (f : ℕ) (r : SegmentState) : Type 0 where
   pub count : r .count ≤ 1000000000000

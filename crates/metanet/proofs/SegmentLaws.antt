@@ -1,5 +1,5 @@
 -- Bounds of what a step makes of one segment.
-use Prim.Native.Nat.{ℕ, _+_, _*_, _/_, _%_, _≤_, _<_, min, max}
+use Prim.Native.Nat.{ℕ, _+_, _*_, _/_, _≤_, _<_, min, max}
 use native.Mathlib.Nat.{le-trans, le-of-eq, mul-comm, mul-assoc, mul-le-mul-left, mul-le-mul-right, div-le-of-le-mul}
 use native.Mathlib.Omega.{arith}
 use mathlib.Core.Bool.{Bool, true, false, cond, _&&_}
@@ -14,10 +14,10 @@ use Rattle.format.specs.Words.{headIn, entryIn, segmentIn}
 use Rattle.format.proofs.Accepted.{RowsWithin}
 use Rattle.metanet.specs.declared.Ramp.{Ramp}
 use Rattle.metanet.specs.declared.SegmentState.{SegmentState}
-use Rattle.metanet.specs.Case.{openKind, alineaKind}
+use Rattle.metanet.specs.Case.{openKind}
 use Rattle.metanet.specs.Flow.{exitPart, alineaRate, moved, rateChange}
 use Rattle.metanet.specs.Speed.{area, keep}
-use Rattle.metanet.specs.Step.{rateOf, rateNow, rampNow, releaseNow, outflowNow, through}
+use Rattle.metanet.specs.Step.{rateOf, moves, rateNow, rampNow, releaseNow, outflowNow, through}
 use Rattle.metanet.proofs.Ready.{AreaOk, SegmentOk, RampOk, StateOk}
 
 -- ---- what acceptance of the network says of segment i
@@ -55,9 +55,9 @@ area-ok S = record { metres-low = omega (arith, S .metres-low); metres-high = S 
 
 pub rate-high : (s : Segment) {r : Ramp} → RampOk (s .most) r → (n t : ℕ) → rampNow s n r t .rate ≤ s .most
 unfolding rampNow rateNow rateOf alineaRate
-rate-high s {r} R n t = pick (eqb (r .kind) alineaKind && eqb (t % r .interval) 0) (eqb (r .kind) openKind)
+rate-high s {r} R n t = pick (moves r t) (eqb (r .kind) openKind)
   where
-    pick : (b c : Bool) → cond b (max (r .least) (min (moved (r .rate) (rateChange (r .gain) (r .target) (area s) n)) (s .most))) (cond c (s .most) (r .rate)) ≤ s .most
+    pick : (b c : Bool) → cond b (max (r .least) (min (moved (r .rate) (rateChange (r .gain) (r .target) (area s) (r .summed) (r .sum))) (s .most))) (cond c (s .most) (r .rate)) ≤ s .most
     pick true c = omega (arith, R .least)
     pick false true = omega arith
     pick false false = R .rate

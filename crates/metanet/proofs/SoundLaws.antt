@@ -4,16 +4,16 @@ use mathlib.Core.Path.{_≡_, refl, sym, ap, _∙_, subst}
 use mathlib.Core.Bool.{Bool, true, false, cond, not, _||_, true≢false}
 use mathlib.Core.List.{List}
 use native.Mathlib.Omega.{arith}
-use native.Mathlib.Nat.{add-zero, le-of-eq, pos-of-ne-zero}
+use native.Mathlib.Nat.{add-zero, le-of-eq}
 use lib.Seq.{getD-drop}
 use lib.Dec.{T, ltb, eqb}
 use lib.ListN.{length, getD}
 use lib.Ieee.{Float, le}
-use borrow.Author.Tests.{ltb-false, eqb-true, eqb-false, not-false}
+use borrow.Author.Tests.{ltb-false, le-ltb, eqb-true, not-false}
 use Rattle.laws.specs.First.{outside, row, first, firstOf}
 use Rattle.laws.specs.Real.{real}
 use Rattle.laws.specs.Sums.{sumOf}
-use Rattle.laws.proofs.First.{row-passed, row-later, first-some, first-zero, first-zero-left, first-zero-right, firstOf-zero}
+use Rattle.laws.proofs.First.{row-passed, row-later, first-some, first-zero, first-zero-left, first-zero-right, firstOf-zero, firstOf-ext}
 use Rattle.laws.proofs.Sums.{sum-ext}
 use Rattle.laws.proofs.Lists.{getD-table}
 use Rattle.format.specs.Words.{headIn, entryIn, segmentIn}
@@ -22,11 +22,12 @@ use Rattle.format.specs.declared.Segment.{Segment}
 use Rattle.metanet.specs.declared.SignSetting.{SignSetting}
 use Rattle.metanet.specs.declared.Ramp.{Ramp}
 use Rattle.metanet.specs.declared.SegmentState.{SegmentState}
-use Rattle.metanet.specs.Case.{noState, stateOf, openKind, alineaKind}
+use Rattle.metanet.specs.Case.{noState, stateOf, alineaKind}
 use Rattle.metanet.specs.Step.{vehiclesIn, freeSpeed, onRamp}
 use Rattle.metanet.specs.Words.{netOf, stateIn, stateAt, statesIn, caseIn}
+use Rattle.metanet.proofs.InWords.{meanNumber, meanNumberIn}
 use Rattle.metanet.proofs.Ready.{SignOk, RampOk, StateOk, CaseAt, Ready, TotalsOk, vehiclesAt}
-use Rattle.metanet.specs.Sound.{signBad, hasAlinea, openBad, fixedBad, alineaBad, settingBad, speedBad, stateBad, totalsBad, stateNumber, caseNumber, arrivalNumber, stepNumber}
+use Rattle.metanet.specs.Sound.{sumMost, summedMost, signBad, hasAlinea, openBad, fixedBad, alineaBad, settingBad, averageBad, speedBad, stateBad, totalsBad, stateNumber, caseNumber, arrivalNumber, stepNumber}
 
 pub state-read : (words : List ℕ) (speeds : List Float) (at from n i : ℕ) → i < n → stateOf (statesIn words speeds at from n) i ≡ stateAt words speeds at from i
 unfolding statesIn
@@ -39,6 +40,14 @@ vehicles-are words speeds at from n i l = simp (state-read words speeds at from 
 
 pub vehicles-sum : (words : List ℕ) (speeds : List Float) (at from n : ℕ) → sumOf (vehiclesAt words at) n ≡ sumOf (vehiclesIn (statesIn words speeds at from n)) n
 vehicles-sum words speeds at from n = sum-ext (vehiclesAt words at) (vehiclesIn (statesIn words speeds at from n)) n (vehicles-are words speeds at from n)
+
+-- S and m, read in the words
+mean-is : (words : List ℕ) (speeds : List Float) (at from n i : ℕ) → i < n → meanNumberIn words at i ≡ meanNumber (statesIn words speeds at from n) i
+unfolding stateIn meanNumber
+mean-is words speeds at from n i l = simp (state-read words speeds at from n i l, getD-drop)
+
+pub means-first : (words : List ℕ) (speeds : List Float) (at from n : ℕ) → firstOf (meanNumberIn words at) n ≡ firstOf (meanNumber (statesIn words speeds at from n)) n
+means-first words speeds at from n = firstOf-ext (meanNumberIn words at) (meanNumber (statesIn words speeds at from n)) n (mean-is words speeds at from n)
 
 -- ---- what a state that is not bad says
 
@@ -57,7 +66,22 @@ sign-ok r z = pick (eqb (r .limit) 0) refl z
           compliance = ltb-false 1000 (r .compliance) (or-right (outside 20 (r .limit) 200) _ z);
         }
 
-module _ (q : ℕ) (r : Ramp) where
+-- where no figure is that only ALINEA has, S and m are within their bounds
+pub none-averaged : (r : Ramp) → hasAlinea r ≡ false → averageBad (r .sum) (r .summed) ≡ false
+unfolding hasAlinea averageBad
+none-averaged r z =
+    let no = anyOf-false _ z in
+    λ j. le-ltb sumMost (r .sum) (omega (arith, ltb-false 0 (r .sum) (no 4))) j || le-ltb summedMost (r .summed) (omega (arith, ltb-false 0 (r .summed) (no 5))) j
+
+module _ (q : ℕ) (r : Ramp) (mean : averageBad (r .sum) (r .summed) ≡ false) where
+  sum-le : r .sum ≤ sumMost
+  unfolding averageBad
+  sum-le = ltb-false _ _ (or-left (ltb sumMost (r .sum)) _ mean)
+
+  summed-le : r .summed ≤ summedMost
+  unfolding averageBad
+  summed-le = ltb-false _ _ (or-right (ltb sumMost (r .sum)) _ mean)
+
   -- of a setting that is not ALINEA's
   plain : hasAlinea r ≡ false → r .rate ≤ q → (r .kind ≡ alineaKind → ⊥) → RampOk q r
   unfolding hasAlinea
@@ -69,6 +93,8 @@ module _ (q : ℕ) (r : Ramp) where
         gain = omega (arith, ltb-false 0 (r .gain) (no 1));
         least = omega (arith, ltb-false 0 (r .least) (no 2));
         interval = λ e. absurd (other e);
+        sum = sum-le;
+        summed = summed-le;
       }
 
   open-ok : (r .kind ≡ alineaKind → ⊥) → openBad q r ≡ false → RampOk q r
@@ -89,6 +115,8 @@ module _ (q : ℕ) (r : Ramp) where
         gain = inside-high 1 (r .gain) 60000 (no 1);
         least = ltb-false _ _ (no 2);
         interval = λ e. inside-low 1 (r .interval) 60 (no 3);
+        sum = sum-le;
+        summed = summed-le;
       }
 
   ramp-ok : (m : Bool) → settingBad m q r ≡ false → RampOk q r
@@ -106,12 +134,12 @@ pub state-ok : (s : Segment) (r : SegmentState) (m : Bool) (f : ℕ) → stateBa
 unfolding stateBad speedBad
 state-ok s r m f z =
     let no = anyOf-false _ z in
-    let speed = not-false _ (no 5) in
+    let speed = not-false _ (no 4) in
     record {
       count = ltb-false _ _ (no 0);
       queue = ltb-false _ _ (no 1);
       sign = sign-ok (r .sign) (no 3);
-      ramp = ramp-ok (s .most) (r .ramp) m (no 4);
+      ramp = ramp-ok (s .most) (r .ramp) (no 6) m (no 5);
       low = truth (and-left (le (real 1000) (r .speed)) (le (r .speed) (real f)) speed);
       high = truth (and-right (le (real 1000) (r .speed)) (le (r .speed) (real f)) speed);
     }
@@ -213,12 +241,3 @@ module _ {words : List ℕ} {speeds : List Float} {at from n : ℕ} (at-place : 
             state = case-state;
             arrival = arrival;
           }
-
--- whether a segment may be metered shows only where its ramp is not open
-pub meter-same : (m k : Bool) (s : Segment) (f : ℕ) (r : SegmentState) → (0 < r .ramp .kind → m ≡ k) → stateBad m s f r ≡ stateBad k s f r
-unfolding stateBad settingBad
-meter-same m k s f r e = go (eqb (r .ramp .kind) openKind) refl
-  where
-    go : (t : Bool) → eqb (r .ramp .kind) openKind ≡ t → stateBad m s f r ≡ stateBad k s f r
-    go true q = simp q
-    go false q = ap (λ (x : Bool). stateBad x s f r) (e (pos-of-ne-zero (eqb-false _ _ q)))

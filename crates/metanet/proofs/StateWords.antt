@@ -1,8 +1,9 @@
 -- The 16 words of a state: how many they are, and what is read back of them after each call that writes them.
 use Prim.Native.Nat.{ℕ}
-use mathlib.Core.Path.{_≡_}
-use mathlib.Core.Bool.{Bool}
+use mathlib.Core.Path.{_≡_, refl}
+use mathlib.Core.Bool.{Bool, true, false}
 use mathlib.Core.List.{List}
+use lib.Dec.{eqb}
 use lib.IntN.{ℤ}
 use lib.ListN.{length, length-set}
 use lib.Ieee.{Float}
@@ -13,6 +14,7 @@ use Rattle.format.specs.declared.Segment.{Segment}
 use Rattle.metanet.specs.declared.SegmentState.{SegmentState}
 use Rattle.metanet.specs.declared.Neighbours.{Neighbours}
 use Rattle.metanet.specs.declared.Setting.{Setting}
+use Rattle.metanet.specs.Case.{alineaKind}
 use Rattle.metanet.specs.Change.{signedState, meteredState}
 use Rattle.metanet.specs.Step.{newState}
 use Rattle.metanet.specs.Words.{stateIn}
@@ -35,7 +37,11 @@ length-metered q setting w = simp length-set
 
 pub length-stepped : (w : List ℕ) (r : SegmentState) → length (steppedWords w r) ≡ length w
 unfolding steppedWords
-length-stepped w r = simp length-set
+length-stepped w r = go (eqb (r .ramp .kind) alineaKind) refl
+  where
+    go : (b : Bool) → eqb (r .ramp .kind) alineaKind ≡ b → length (steppedWords w r) ≡ length w
+    go true e = simp (e, length-set)
+    go false e = simp (e, length-set)
 
 -- ---- what is read back
 
@@ -51,4 +57,9 @@ module _ (w : List ℕ) (v : Float) (many : length w ≡ 16) where
   pub state-stepped : (h : Head) (s : Segment) (f t d : ℕ) (onRamp : Bool) (o : Neighbours)
       → let r = newState h s f (stateIn w v) t d onRamp o in stateIn (steppedWords w r) (r .speed) ≡ r
   unfolding stateIn steppedWords newState
-  state-stepped h s f t d onRamp o = simp (getD-set, length-set, many)
+  state-stepped h s f t d onRamp o = go (eqb (stateIn w v .ramp .kind) alineaKind) refl
+    where
+      go : (b : Bool) → eqb (stateIn w v .ramp .kind) alineaKind ≡ b
+          → let r = newState h s f (stateIn w v) t d onRamp o in stateIn (steppedWords w r) (r .speed) ≡ r
+      go true e = simp (e, getD-set, length-set, many)
+      go false e = simp (e, getD-set, length-set, many)

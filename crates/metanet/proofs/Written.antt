@@ -19,7 +19,7 @@ use Rattle.laws.proofs.Outside.{SameOutside, same-all, same-within, take-same, 
 use Rattle.format.specs.Words.{networkIn}
 use Rattle.metanet.specs.declared.SegmentState.{SegmentState}
 use Rattle.metanet.specs.declared.Setting.{Setting}
-use Rattle.metanet.specs.Case.{Case, stateOf}
+use Rattle.metanet.specs.Case.{Case, alineaKind, stateOf}
 use Rattle.metanet.specs.Change.{signedState, meteredState, withState}
 use Rattle.metanet.specs.Step.{vehiclesIn, stepCase}
 use Rattle.metanet.specs.Words.{netOf, stateIn, statesIn, caseIn, putState, putCase, putCaseSpeeds}
@@ -45,12 +45,15 @@ free-signed limit compliance w = simp (past wordsUsed 2 (lit< tt), past wordsUse
 free-metered : (q : ℕ) (setting : Setting) (w : List ℕ) → drop wordsUsed (meteredWords q setting w) ≡ drop wordsUsed w
 unfolding meteredWords
 free-metered q setting w =
-    simp (past wordsUsed 4 (lit< tt), past wordsUsed 5 (lit< tt), past wordsUsed 6 (lit< tt), past wordsUsed 7 (lit< tt), past wordsUsed 8 (lit< tt), past wordsUsed 9 (lit< tt))
+    simp (past wordsUsed 4 (lit< tt), past wordsUsed 5 (lit< tt), past wordsUsed 6 (lit< tt), past wordsUsed 7 (lit< tt), past wordsUsed 8 (lit< tt), past wordsUsed 9 (lit< tt), past wordsUsed 12 (lit< tt), past wordsUsed 13 (lit< tt))
 
 free-stepped : (w : List ℕ) (r : SegmentState) → drop wordsUsed (steppedWords w r) ≡ drop wordsUsed w
 unfolding steppedWords
-free-stepped w r =
-    simp (past wordsUsed 0 (lit< tt), past wordsUsed 1 (lit< tt), past wordsUsed 5 (lit< tt), past wordsUsed 10 (lit< tt), past wordsUsed 11 (lit< tt))
+free-stepped w r = go (eqb (r .ramp .kind) alineaKind) refl
+  where
+    go : (b : Bool) → eqb (r .ramp .kind) alineaKind ≡ b → drop wordsUsed (steppedWords w r) ≡ drop wordsUsed w
+    go true e = simp (e, past wordsUsed 0 (lit< tt), past wordsUsed 1 (lit< tt), past wordsUsed 5 (lit< tt), past wordsUsed 10 (lit< tt), past wordsUsed 11 (lit< tt), past wordsUsed 12 (lit< tt), past wordsUsed 13 (lit< tt))
+    go false e = simp (e, past wordsUsed 0 (lit< tt), past wordsUsed 1 (lit< tt), past wordsUsed 5 (lit< tt), past wordsUsed 10 (lit< tt), past wordsUsed 11 (lit< tt))
 
 free-totals : (w : List ℕ) (came left time : ℕ) → drop 4 (totalsWords w came left time) ≡ drop 4 w
 unfolding totalsWords

@@ -32,7 +32,7 @@ darkSign = record { limit = 0; compliance = 0 }
 
 -- a ramp that is not ALINEA's
 abbrev pub plainRamp : ℕ → ℕ → Ramp
-plainRamp kind rate = record { kind = kind; rate = rate; target = 0; gain = 0; least = 0; interval = 0 }
+plainRamp kind rate = record { kind = kind; rate = rate; target = 0; gain = 0; least = 0; interval = 0; sum = 0; summed = 0 }
 
 -- R of an open segment is its Q
 abbrev pub openRamp : ℕ → Ramp

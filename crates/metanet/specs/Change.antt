@@ -45,12 +45,12 @@ settingRefused most (Fixed rate) = ltb most rate
 settingRefused most (Alinea target gain least interval) =
     anyOf (outside 1 target 199 ∷ outside 1 gain 60000 ∷ ltb most least ∷ outside 1 interval 60 ∷ [])
 
--- ALINEA begins at R = Q
+-- ALINEA begins at R = Q, with S and m 0
 abbrev pub rampFor : ℕ → Setting → Ramp
 rampFor most Open = openRamp most
 rampFor most (Fixed rate) = plainRamp fixedKind rate
 rampFor most (Alinea target gain least interval) =
-    record { kind = alineaKind; rate = most; target = target; gain = gain; least = least; interval = interval }
+    record { kind = alineaKind; rate = most; target = target; gain = gain; least = least; interval = interval; sum = 0; summed = 0 }
 
 abbrev pub meteredState : ℕ → Setting → SegmentState → SegmentState
 meteredState most setting r =

@@ -9,18 +9,18 @@ use Rattle.format.specs.declared.Segment.{Segment}
 use Rattle.metanet.specs.declared.SignSetting.{SignSetting}
 use Rattle.metanet.specs.declared.Ramp.{Ramp}
 
--- ---- 1. q = gain × (target × G − N) ÷ G, quotient towards zero
-abbrev pub rateChange : ℕ → ℕ → ℕ → ℕ → ℤ
-rateChange gain target g n =
-    cond (leb n (target * g)) (pos (gain * (target * g - n) / g)) (negℤ (pos (gain * (n - target * g) / g)))
+-- ---- 1. q = gain × (m × target × G − S) ÷ (m × G), quotient towards zero (F-4); sum is S
+abbrev pub rateChange : ℕ → ℕ → ℕ → ℕ → ℕ → ℤ
+rateChange gain target g m sum =
+    cond (leb sum (m * target * g)) (pos (gain * (m * target * g - sum) / (m * g))) (negℤ (pos (gain * (sum - m * target * g) / (m * g))))
 
 -- R + q, and 0 where that is below 0
 abbrev pub moved : ℕ → ℤ → ℕ
 moved r = elim [ pos k ↦ r + k | negsuc k ↦ r - suc k ]
 
 -- rate R becomes R + q, then kept in least..Q; least is not below 0, so what is below 0 becomes least
-unfoldable pub alineaRate : Ramp → ℕ → ℕ → ℕ → ℕ
-alineaRate r most g n = max (r .least) (min (moved (r .rate) (rateChange (r .gain) (r .target) g n)) most)
+unfoldable pub alineaRate : Ramp → ℕ → ℕ → ℕ
+alineaRate r most g = max (r .least) (min (moved (r .rate) (rateChange (r .gain) (r .target) g (r .summed) (r .sum))) most)
 
 -- ---- 2. what bounds an origin beside w + d and R
 

@@ -46,10 +46,10 @@ pub record MarkedCases : Type 0 where
   pub jam-bound : jamBound 6000 180 30 1000 20000 ≡ 6400
   pub jam-bound-full : jamBound 6000 180 30 1000 180000 ≡ 0
   pub jam-bound-over : jamBound 6000 180 30 1000 180001 ≡ 0
-  -- q, gain 100, target 30, G 1,000: −450 at N 34,500, 0 at 30,001 and 29,999
-  pub change-down : rateChange 100 30 1000 34500 ≡ negℤ (pos 450)
-  pub change-just-above : rateChange 100 30 1000 30001 ≡ pos 0
-  pub change-just-below : rateChange 100 30 1000 29999 ≡ pos 0
+  -- q, gain 100, target 30, G 1,000: −450 at N 34,500, 0 at 30,001 and 29,999; with m 1 and S = N it is still so
+  pub change-down : rateChange 100 30 1000 1 34500 ≡ negℤ (pos 450)
+  pub change-just-above : rateChange 100 30 1000 1 30001 ≡ pos 0
+  pub change-just-below : rateChange 100 30 1000 1 29999 ≡ pos 0
   -- V 79,500 for e20 80,000, e21 79,000, N 20,500
   pub curve-between : curveSpeed bent 20500 1000 ≡ real 79500
   -- limit 70, a −100: 63,000

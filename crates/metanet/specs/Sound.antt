@@ -17,9 +17,15 @@ use Rattle.metanet.specs.declared.SegmentState.{SegmentState}
 use Rattle.metanet.specs.Case.{Case, openKind, fixedKind, alineaKind, stateOf}
 use Rattle.metanet.specs.Step.{vehiclesIn, freeSpeed, onRamp}
 
--- every mv figure and each case's mv in all ≤ 10¹², time ≤ 10¹⁸, steps ≤ 20,000
+-- every mv figure and each case's mv in all ≤ 10¹², time ≤ 10¹⁸, steps ≤ 20,000; of the average (F-4) m ≤ 60, S ≤ 60 × 10¹²
 abbrev pub mvMost : ℕ
 mvMost = 1000000000000
+
+abbrev pub summedMost : ℕ
+summedMost = 60
+
+abbrev pub sumMost : ℕ
+sumMost = 60000000000000
 
 abbrev pub timeMost : ℕ
 timeMost = 1000000000000000000
@@ -35,7 +41,15 @@ signBad r = cond (eqb (r .limit) 0) (ltb 0 (r .compliance)) (outside 20 (r .limi
 
 -- the figures of a setting that only ALINEA has
 unfoldable pub hasAlinea : Ramp → Bool
-hasAlinea r = anyOf (ltb 0 (r .target) ∷ ltb 0 (r .gain) ∷ ltb 0 (r .least) ∷ ltb 0 (r .interval) ∷ [])
+hasAlinea r =
+    anyOf
+    (ltb 0 (r .target)
+    ∷ ltb 0 (r .gain)
+    ∷ ltb 0 (r .least)
+    ∷ ltb 0 (r .interval)
+    ∷ ltb 0 (r .sum)
+    ∷ ltb 0 (r .summed)
+    ∷ [])
 
 -- open: R is Q, and the figures that only ALINEA has are 0
 unfoldable pub openBad : ℕ → Ramp → Bool
@@ -66,6 +80,10 @@ settingBad m most r =
     (cond (eqb (r .kind) fixedKind) (not m || fixedBad most r)
     (cond (eqb (r .kind) alineaKind) (not m || alineaBad most r) true))
 
+-- S and m of an ALINEA ramp (F-4)
+unfoldable pub averageBad : ℕ → ℕ → Bool
+averageBad sum summed = ltb sumMost sum || ltb summedMost summed
+
 -- mv figures
 unfoldable pub flowsBad : Flows → Bool
 flowsBad r = ltb mvMost (r .outflow) || ltb mvMost (r .release)
@@ -76,15 +94,16 @@ speedBad f v = not (le (real 1000) v && le v (real f))
 
 -- one segment's part of a case
 unfoldable pub stateBad : Bool → Segment → ℕ → SegmentState → Bool
-unfolding flowsBad signBad settingBad speedBad
+unfolding flowsBad signBad speedBad settingBad averageBad
 stateBad m s f r =
     anyOf
     (ltb mvMost (r .count)
     ∷ ltb mvMost (r .queue)
     ∷ flowsBad (r .flows)
     ∷ signBad (r .sign)
-    ∷ settingBad m (s .most) (r .ramp)
     ∷ speedBad f (r .speed)
+    ∷ settingBad m (s .most) (r .ramp)
+    ∷ averageBad (r .ramp .sum) (r .ramp .summed)
     ∷ [])
 
 -- vehicles: the mv in segments and queues

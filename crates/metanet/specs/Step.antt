@@ -44,17 +44,33 @@ desiredSpeed e s r = underSign (curveSpeed e (r .count) (area s)) (signOf (r .si
 unfoldable pub rateOf : ℕ → Ramp → ℕ
 rateOf most r = cond (eqb (r .kind) openKind) most (r .rate)
 
--- 1. the rate that this step makes with n mv in the segment: ALINEA ramps whose interval divides t move theirs
-unfoldable pub rateNow : Segment → ℕ → Ramp → ℕ → ℕ
-unfolding rateOf
-rateNow s n r t =
-    cond (eqb (r .kind) alineaKind && eqb (t % r .interval) 0) (alineaRate r (s .most) (area s) n) (rateOf (s .most) r)
+-- 1. an ALINEA ramp moves its rate when z divides t and m is not 0 (F-4)
+unfoldable pub moves : Ramp → ℕ → Bool
+moves r t = eqb (r .kind) alineaKind && (eqb (t % r .interval) 0 && not (eqb (r .summed) 0))
 
--- the ramp after the step: its setting stays
+-- the rate that this step makes
+unfoldable pub rateNow : Segment → Ramp → ℕ → ℕ
+unfolding rateOf
+rateNow s r t = cond (moves r t) (alineaRate r (s .most) (area s)) (rateOf (s .most) r)
+
+-- S or m, as x: it becomes 0 when the rate moves; then, in every step of an ALINEA ramp, it grows by k
+unfoldable pub addedUp : Ramp → ℕ → ℕ → ℕ → ℕ
+addedUp r t x k = cond (eqb (r .kind) alineaKind) (cond (moves r t) 0 x + k) x
+
+-- the ramp after the step with n mv in the segment before it: its setting stays, S grows by N and m by 1
 unfoldable pub rampNow : Segment → ℕ → Ramp → ℕ → Ramp
-unfolding rateNow
+unfolding rateNow addedUp
 rampNow s n r t =
-    record { kind = r .kind; rate = rateNow s n r t; target = r .target; gain = r .gain; least = r .least; interval = r .interval }
+    record {
+      kind = r .kind;
+      rate = rateNow s r t;
+      target = r .target;
+      gain = r .gain;
+      least = r .least;
+      interval = r .interval;
+      sum = addedUp r t (r .sum) n;
+      summed = addedUp r t (r .summed) 1;
+    }
 
 -- s is the whole part of v
 abbrev pub wholeSpeed : SegmentState → ℕ
@@ -71,7 +87,7 @@ originBound mainstream h e s r =
 -- release = least of w + d; R; that bound
 unfoldable pub releaseNow : Segment → SegmentState → ℕ → ℕ → ℕ → ℕ
 unfolding rateNow
-releaseNow s r t d bound = releaseOf (r .queue + d) (rateNow s (r .count) (r .ramp) t) bound
+releaseNow s r t d bound = releaseOf (r .queue + d) (rateNow s (r .ramp) t) bound
 
 -- 3. the outflow
 unfoldable pub outflowNow : Head → Segment → SegmentState → ℕ

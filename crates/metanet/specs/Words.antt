@@ -15,7 +15,7 @@ use Rattle.metanet.specs.Case.{Case, stateOf}
 abbrev pub netOf : List ℕ → List ℕ
 netOf words = take 2560 words
 
--- ---- a state in 16 words: N, w, limit, compliance + 500, kind, R, target, gain, least, z, last outflow, last release; 4 are free
+-- ---- a state in 16 words: N, w, limit, compliance + 500, kind, R, target, gain, least, z, last outflow, last release, S, m; 2 are free
 
 -- its parts, read
 unfoldable pub signIn : List ℕ → SignSetting
@@ -23,7 +23,16 @@ signIn w = record { limit = getD w 2 0; compliance = getD w 3 0 }
 
 unfoldable pub rampIn : List ℕ → Ramp
 rampIn w =
-    record { kind = getD w 4 0; rate = getD w 5 0; target = getD w 6 0; gain = getD w 7 0; least = getD w 8 0; interval = getD w 9 0 }
+    record {
+      kind = getD w 4 0;
+      rate = getD w 5 0;
+      target = getD w 6 0;
+      gain = getD w 7 0;
+      least = getD w 8 0;
+      interval = getD w 9 0;
+      sum = getD w 12 0;
+      summed = getD w 13 0;
+    }
 
 unfoldable pub flowsIn : List ℕ → Flows
 flowsIn w = record { outflow = getD w 10 0; release = getD w 11 0 }
@@ -42,9 +51,13 @@ rampWords r = r .kind ∷ r .rate ∷ r .target ∷ r .gain ∷ r .least ∷ r .
 abbrev pub flowsWords : Flows → List ℕ
 flowsWords r = r .outflow ∷ r .release ∷ []
 
+abbrev pub averageWords : Ramp → List ℕ
+averageWords r = r .sum ∷ r .summed ∷ []
+
 -- the words w of a state with the state r put in; the free ones stay
 unfoldable pub putState : SegmentState → List ℕ → List ℕ
-putState r w = r .count ∷ r .queue ∷ (signWords (r .sign) ++ (rampWords (r .ramp) ++ (flowsWords (r .flows) ++ drop 12 w)))
+putState r w =
+    r .count ∷ r .queue ∷ (signWords (r .sign) ++ (rampWords (r .ramp) ++ (flowsWords (r .flows) ++ (averageWords (r .ramp) ++ drop 14 w))))
 
 -- ---- a case, read
 

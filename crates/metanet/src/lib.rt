@@ -6,7 +6,8 @@ pub struct SignSetting {
 }
 
 // A ramp: the kind of its setting (0 open, 1 fixed, 2 ALINEA) and its rate R in mv a step; of ALINEA the target in veh/km/lane, gain
-// and least in mv, interval z in steps, each 0 where the setting is another.
+// and least in mv, interval z in steps, the sum S of N in mv since the rate last moved and the number m of steps in it; each 0 where the
+// setting is another.
 pub struct Ramp {
     pub kind: u64,
     pub rate: u64,
@@ -14,6 +15,8 @@ pub struct Ramp {
     pub gain: u64,
     pub least: u64,
     pub interval: u64,
+    pub sum: u64,
+    pub summed: u64,
 }
 
 // What the last step let out of a segment, exit part included, and what it released from the queue, in mv.

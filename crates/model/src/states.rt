@@ -8,7 +8,7 @@ ghost use lib.ListN.{length};
 ghost use Rattle.metanet.proofs.InWords.{steppedWords};
 ghost use Rattle.metanet.proofs.Ready.{Ready, Stepped};
 
-// Stores the figures that a step makes.
+// Stores the figures that a step makes; S and m are those of an ALINEA ramp alone.
 fn store(w: &mut [u64], r: SegmentState)
     requires { ⌜ length (now w) ≡ 16 ⌝ }
     ensures { λ _. ⌜ now (w .exit) ≡ steppedWords (now (w .entry)) r ⌝ }
@@ -20,6 +20,10 @@ fn store(w: &mut [u64], r: SegmentState)
     w[5] = ramp.rate;
     w[10] = flows.outflow;
     w[11] = flows.release;
+    if ramp.kind == 2 {
+        w[12] = ramp.sum;
+        w[13] = ramp.summed;
+    }
 }
 
 // One step of the states that start at word at and of the speeds that start at from; gives what leaves.

@@ -5,12 +5,12 @@ use mathlib.Core.Bool.{Bool, true, false, not, _||_}
 use mathlib.Core.List.{List}
 use native.Mathlib.Omega.{arith}
 use native.Mathlib.Nat.{zero-mul}
-use lib.Dec.{leb, eqb}
+use lib.Dec.{leb}
 use lib.ListN.{length, getD}
 use lib.Ieee.{Float}
-use borrow.Author.Tests.{leb-false, eq-eqb, ne-eqb, eqb-true, eqb-false, not-false}
+use borrow.Author.Tests.{leb-false, eq-eqb, ne-eqb}
 use Rattle.laws.specs.First.{row, first, firstOf}
-use Rattle.laws.proofs.First.{row-applies, row-skipped, row-passed, row-later, first-some, first-zero, first-zero-left, first-zero-right}
+use Rattle.laws.proofs.First.{row-applies, row-skipped, row-passed, first-some, first-zero, first-zero-left, first-zero-right}
 use Rattle.format.specs.Network.{entryOf, segmentOf}
 use Rattle.format.specs.Words.{headIn, entryIn, segmentIn}
 use Rattle.metanet.specs.Words.{netOf, caseIn}
@@ -25,11 +25,10 @@ use Rattle.book.specs.Refusal.{refusal, itemNumber}
 use Rattle.book.specs.Perform.{lent, refusalAt}
 use Rattle.book.proofs.Judging.{placed, case-judged}
 use Rattle.book.proofs.Sounds.{laid, live-sound}
-use Rattle.book.proofs.Performing.{judged, unsound}
+use Rattle.book.proofs.Performing.{judged}
 use Rattle.book.proofs.Rows.{live-word}
 use Rattle.book.specs.Calls.{item}
 use Rattle.metanet.specs.Line.{stepped}
-use Rattle.refusal.specs.Ready.{listedNumber}
 
 module _ (words : List ℕ) (speeds : List Float) (ds : List ℕ) where
   abbrev net : List ℕ
@@ -124,21 +123,3 @@ module _ (words : List ℕ) (speeds : List Float) (ds : List ℕ) where
         step-totals =
             subst (λ (m : ℕ). TotalsOk words (2576 + 16 * m)) (sym size)
             (subst (λ (p : ℕ). TotalsOk words (p + 16 * sizeAt words)) (live-word (sizeAt words)) totals-ready)
-
--- ---- 12 and 13, judged first
-
-module _ (words : List ℕ) (speeds : List Float) (ds : List ℕ) where
-  pub listed-refused : {r : ℕ} → r ≡ listedNumber words speeds ds → (r ≡ 0 → ⊥) → r ≡ refusalAt (item (stepped ds)) (lent words speeds)
-  listed-refused {r} e some = go (sound words speeds) refl (eqb (length ds) (sizeAt words)) refl
-    where
-      go : (a : Bool) → sound words speeds ≡ a → (b : Bool) → eqb (length ds) (sizeAt words) ≡ b → r ≡ refusalAt (item (stepped ds)) (lent words speeds)
-      go false s b p = e ∙ row-applies _ _ _ (ap not s) ∙ unsound (item (stepped ds)) words speeds refl s
-      go true s false p = e ∙ row-skipped _ _ _ (ap not s) ∙ row-applies _ _ _ (ap not p) ∙ unlisted words speeds ds s (eqb-false _ _ p)
-      go true s true p = absurd (some (e ∙ row-skipped _ _ _ (ap not s) ∙ row-skipped _ _ _ (ap not p)))
-
-  module _ (z : listedNumber words speeds ds ≡ 0) where
-    pub listed-sound : sound words speeds ≡ true
-    listed-sound = not-false _ (row-passed _ _ _ z)
-
-    pub listed-many : length ds ≡ sizeAt words
-    listed-many = eqb-true _ _ (not-false _ (row-passed _ _ _ (row-later _ _ _ z)))

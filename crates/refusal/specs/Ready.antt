@@ -1,13 +1,10 @@
 -- What acceptance of a call says, for the functions that go on from there.
 use Prim.Native.Nat.{ℕ, _≤_}
 use mathlib.Core.Path.{_≡_}
-use mathlib.Core.Bool.{not}
 use mathlib.Core.List.{List}
-use lib.Dec.{eqb}
 use lib.ListN.{length, getD}
 use lib.Ieee.{Float}
-use Rattle.laws.specs.First.{row}
-use Rattle.book.specs.Arrangement.{slots, sizeAt}
+use Rattle.book.specs.Arrangement.{slots}
 use Rattle.book.specs.Sound.{sound, caseNumberAt}
 use Rattle.book.proofs.Laid.{Laid}
 use Rattle.format.specs.File.{headOf, segmentOn, entryOn, fileNumber}
@@ -18,10 +15,6 @@ pub record Reportable (words : List ℕ) (speeds : List Float) (n k : ℕ) : Typ
   pub laid : Laid words speeds n
   pub high : k ≤ slots
   pub sound : caseNumberAt words speeds k ≡ 0
-
--- 12 and 13 of a Step
-abbrev pub listedNumber : List ℕ → List Float → List ℕ → ℕ
-listedNumber words speeds ds = row (not (sound words speeds)) 12 (row (not (eqb (length ds) (sizeAt words))) 13 0)
 
 -- 14, of segment i, as the file's bytes say it
 abbrev pub startNumberOn : List ℕ → List ℕ → List ℕ → List ℕ → ℕ → ℕ

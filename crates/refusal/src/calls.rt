@@ -3,17 +3,19 @@ use crate::arrivals;
 use crate::segment;
 use metanet::Setting;
 ghost use mathlib.Core.Path.{_≡_};
+ghost use mathlib.Core.Bool.{true};
 ghost use lib.ListN.{length};
 ghost use Rattle.laws.specs.Sums.{sumOf};
 ghost use Rattle.metanet.proofs.Ready.{vehiclesAt};
 ghost use Rattle.metanet.specs.Change.{complianceBad, signRefused, settingRefused};
 ghost use Rattle.metanet.specs.Line.{signed, metered, stepped};
+ghost use Rattle.book.specs.Arrangement.{sizeAt};
+ghost use Rattle.book.specs.Sound.{sound};
 ghost use Rattle.book.specs.Question.{totals, segment, ofCase};
 ghost use Rattle.book.specs.Calls.{item, hold, recall, question};
 ghost use Rattle.book.specs.Perform.{lent, refusalAt};
 ghost use Rattle.book.specs.Run.{runRefusal};
 ghost use Rattle.book.proofs.Rows.{RowReady};
-ghost use Rattle.refusal.specs.Ready.{listedNumber};
 
 fn compliance_bad(compliance: i64) -> bool
     ensures { λ r. ⌜ r ≡ complianceBad compliance ⌝ }
@@ -85,30 +87,11 @@ pub fn meter_number(words: &[u64], speeds: &[f64], i: u64, setting: Setting) -> 
     0
 }
 
-// Step, as far as the study and the list's length refuse it: 12, 13.
-pub fn listed_number(words: &[u64], speeds: &[f64], arrivals: &[u32]) -> u64
-    ensures { λ r. ⌜ r ≡ listedNumber (now (words .entry)) (now (speeds .entry)) (now (arrivals .entry)) ⌝ }
-{
-    if !sound::sound(words, speeds) {
-        return 12;
-    }
-    if arrivals.len() != words[1] as usize {
-        return 13;
-    }
-    0
-}
-
-// Step, with as many arrivals as segments, on a study that is sound but perhaps for the totals of its live case: 12, 15, 16. vehicles is
-// the mv of that case.
-pub fn row_number(words: &[u64], speeds: &[f64], arrivals: &[u32], n: usize, vehicles: u64) -> u64
-    requires { ⌜ RowReady (now words) (now speeds) n ⌝ }
-    requires { ⌜ length (now arrivals) ≡ n ⌝ }
-    requires { ⌜ vehicles ≡ sumOf (vehiclesAt (now words) 2576) n ⌝ }
+// Step on a sound study of n segments, with as many arrivals: 15, 16.
+fn late_number(words: &[u64], speeds: &[f64], arrivals: &[u32], n: usize) -> u64
+    requires { ⌜ (sound (now words) (now speeds) ≡ true) × (n ≡ sizeAt (now words)) × (length (now arrivals) ≡ n) ⌝ }
     ensures { λ r. ⌜ r ≡ refusalAt (item (stepped (now (arrivals .entry)))) (lent (now (words .entry)) (now (speeds .entry))) ⌝ }
 {
-    if sound::live_bad(words, speeds, n, vehicles) {
-        return 12;
-    }
     let r = arrivals::arrivals_number(&words[..network_words::NETWORK_WORDS], arrivals, n);
     if r != 0 {
         return r;
@@ -119,6 +102,34 @@ pub fn row_number(words: &[u64], speeds: &[f64], arrivals: &[u32], n: usize, veh
         return 16;
     }
     0
+}
+
+// Step: 12; 13 list length; 15; 16.
+pub fn step_number(words: &[u64], speeds: &[f64], arrivals: &[u32]) -> u64
+    ensures { λ r. ⌜ r ≡ refusalAt (item (stepped (now (arrivals .entry)))) (lent (now (words .entry)) (now (speeds .entry))) ⌝ }
+{
+    if !sound::sound(words, speeds) {
+        return 12;
+    }
+    let n = words[1] as usize;
+    if arrivals.len() != n {
+        return 13;
+    }
+    late_number(words, speeds, arrivals, n)
+}
+
+// Step, with as many arrivals as segments, on a study that is sound but perhaps for S, m and the totals of its live case: 12, 15, 16.
+// vehicles is the mv of that case.
+pub fn row_number(words: &[u64], speeds: &[f64], arrivals: &[u32], n: usize, vehicles: u64) -> u64
+    requires { ⌜ RowReady (now words) (now speeds) n ⌝ }
+    requires { ⌜ length (now arrivals) ≡ n ⌝ }
+    requires { ⌜ vehicles ≡ sumOf (vehiclesAt (now words) 2576) n ⌝ }
+    ensures { λ r. ⌜ r ≡ refusalAt (item (stepped (now (arrivals .entry)))) (lent (now (words .entry)) (now (speeds .entry))) ⌝ }
+{
+    if sound::live_number(words, speeds, n, vehicles) != 0 {
+        return 12;
+    }
+    late_number(words, speeds, arrivals, n)
 }
 
 // A run, before its first row: 12; 25 and 26 by the file.

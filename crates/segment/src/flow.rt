@@ -53,18 +53,19 @@ fn bounded(least: u64, most: u64, x: u64) -> u64
     x
 }
 
-// ALINEA's new rate on an area g with n mv; the quotient goes towards zero on either side of the target.
-pub(crate) fn alinea(r: Ramp, most: u64, g: u64, n: u64) -> u64
+// ALINEA's new rate on an area g, where at least one step is summed; the quotient goes towards zero on either side of the target.
+pub(crate) fn alinea(r: Ramp, most: u64, g: u64) -> u64
     requires { ⌜ RampOk most r ⌝ }
-    requires { ⌜ (most ≤ 300000) × (0 < g) × (g ≤ 16000) × (n ≤ 1000000000000) ⌝ }
-    ensures { λ x. ⌜ x ≡ alineaRate r most g n ⌝ }
+    requires { ⌜ (most ≤ 300000) × (0 < g) × (g ≤ 16000) × (0 < r .summed) ⌝ }
+    ensures { λ x. ⌜ x ≡ alineaRate r most g ⌝ }
 {
-    let wanted = r.target * g;
-    if n <= wanted {
-        let up = r.gain * (wanted - n) / g;
+    let wanted = r.summed * r.target * g;
+    let over = r.summed * g;
+    if r.sum <= wanted {
+        let up = r.gain * (wanted - r.sum) / over;
         return bounded(r.least, most, r.rate + up);
     }
-    let down = r.gain * (n - wanted) / g;
+    let down = r.gain * (r.sum - wanted) / over;
     if down < r.rate {
         return bounded(r.least, most, r.rate - down);
     }

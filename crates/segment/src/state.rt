@@ -12,47 +12,81 @@ use metanet::Old;
 use metanet::Ramp;
 use metanet::SegmentState;
 ghost use mathlib.Core.Path.{_≡_};
+ghost use mathlib.Core.Bool.{cond};
 ghost use Prim.Native.Nat.{_+_, _-_, _<_, _≤_};
+ghost use lib.Dec.{eqb};
 ghost use lib.ListN.{length, drop};
 ghost use Rattle.format.proofs.Accepted.{HeadWithin};
 ghost use Rattle.format.specs.Words.{headIn, segmentIn};
+ghost use Rattle.metanet.specs.Case.{alineaKind};
 ghost use Rattle.metanet.specs.Flow.{exitPart};
 ghost use Rattle.metanet.specs.Speed.{area};
-ghost use Rattle.metanet.specs.Step.{rateNow, rampNow, outflowNow, newState};
-ghost use Rattle.metanet.specs.Words.{netOf};
+ghost use Rattle.metanet.specs.Step.{moves, rateNow, rampNow, outflowNow, newState};
+ghost use Rattle.metanet.specs.Words.{netOf, rampIn};
 ghost use Rattle.metanet.proofs.Ready.{SegmentOk, RampOk, StateOk, NewStateOk, newStateIn};
 
-// The rate that a step makes on an area g with n mv; t is the number of steps so far.
-fn rate_of(s: Segment, n: u64, r: Ramp, g: u64, t: u64) -> u64
-    requires { ⌜ (g ≡ area s) × (0 < g) × (g ≤ 16000) × (s .most ≤ 300000) × (n ≤ 1000000000000) ⌝ }
-    requires { ⌜ RampOk (s .most) r ⌝ }
-    ensures { λ x. ⌜ x ≡ rateNow s n r t ⌝ }
+// Whether a ramp moves its rate; t is the number of steps so far.
+fn is_moved(r: Ramp, t: u64) -> bool
+    requires { ⌜ (r .kind ≡ alineaKind → 0 < r .interval) ⌝ }
+    ensures { λ x. ⌜ x ≡ moves r t ⌝ }
 {
     if r.kind == 2 {
-        if t % r.interval == 0 {
-            return flow::alinea(r, s.most, g, n);
+        return (t % r.interval == 0) & (r.summed != 0);
+    }
+    false
+}
+
+// The rate that a step makes on an area g, of the ramp in the words w of a state. What only ALINEA has is read only there.
+fn rate_of(w: &[u64], s: Segment, g: u64, t: u64) -> u64
+    requires { ⌜ (g ≡ area s) × (0 < g) × (g ≤ 16000) × (s .most ≤ 300000) × (16 ≤ length (now w)) ⌝ }
+    requires { ⌜ RampOk (s .most) (rampIn (now w)) ⌝ }
+    ensures { λ x. ⌜ x ≡ rateNow s (rampIn (now (w .entry))) t ⌝ }
+{
+    if w[4] == 2 {
+        let r = case_words::ramp_in(w);
+        if is_moved(r, t) {
+            return flow::alinea(r, s.most, g);
         }
         return r.rate;
     }
-    if r.kind == 0 {
+    if w[4] == 0 {
         return s.most;
     }
-    r.rate
+    w[5]
 }
 
-// The ramp with that rate.
-fn new_ramp(s: Segment, n: u64, r: Ramp, g: u64, t: u64) -> Ramp
-    requires { ⌜ (g ≡ area s) × (0 < g) × (g ≤ 16000) × (s .most ≤ 300000) × (n ≤ 1000000000000) ⌝ }
-    requires { ⌜ RampOk (s .most) r ⌝ }
-    ensures { λ x. ⌜ x ≡ rampNow s n r t ⌝ }
+// S or m, as x, which an ALINEA ramp adds k to.
+fn added_up(r: Ramp, moved: bool, x: u64, k: u64) -> u64
+    requires { ⌜ (x ≤ 60000000000000) × (k ≤ 1000000000000) ⌝ }
+    ensures { λ y. ⌜ y ≡ cond (eqb (r .kind) alineaKind) (cond moved 0 x + k) x ⌝ }
 {
+    if r.kind != 2 {
+        return x;
+    }
+    if moved {
+        return k;
+    }
+    x + k
+}
+
+// The ramp after a step on an area g with n mv, from the words w of a state; t is the number of steps so far.
+fn new_ramp(w: &[u64], s: Segment, n: u64, g: u64, t: u64) -> Ramp
+    requires { ⌜ (g ≡ area s) × (0 < g) × (g ≤ 16000) × (s .most ≤ 300000) × (16 ≤ length (now w)) × (n ≤ 1000000000000) ⌝ }
+    requires { ⌜ RampOk (s .most) (rampIn (now w)) ⌝ }
+    ensures { λ x. ⌜ x ≡ rampNow s n (rampIn (now (w .entry))) t ⌝ }
+{
+    let rate = rate_of(w, s, g, t);
+    let r = case_words::ramp_in(w);
+    let moved = is_moved(r, t);
     Ramp {
         kind: r.kind,
-        rate: rate_of(s, n, r, g, t),
+        rate,
         target: r.target,
         gain: r.gain,
         least: r.least,
         interval: r.interval,
+        sum: added_up(r, moved, r.sum, n),
+        summed: added_up(r, moved, r.summed, 1),
     }
 }
 
@@ -70,11 +104,12 @@ fn outflow_of(h: Head, s: Segment, f: u64, r: SegmentState) -> u64
     )
 }
 
-// The new state of a segment, from its old one and what is around it.
+// The new state of a segment, from its old one, whose ramp is read in the words w, and what is around it.
 fn new_state(
     h: Head,
     s: Segment,
     f: u64,
+    w: &[u64],
     r: SegmentState,
     t: u64,
     d: u64,
@@ -84,13 +119,12 @@ fn new_state(
     requires { ⌜ HeadWithin h ⌝ }
     requires { ⌜ SegmentOk h s f ⌝ }
     requires { ⌜ StateOk s f r ⌝ }
-    requires { ⌜ (d ≤ 1000000) × (o .passed ≤ 100000000000000) ⌝ }
+    requires { ⌜ (d ≤ 1000000) × (o .passed ≤ 100000000000000) × (16 ≤ length (now w)) × (r .ramp ≡ rampIn (now w)) ⌝ }
     ensures { λ x. ⌜ x ≡ newState h s f r t d onramp o ⌝ }
 {
     let g = flow::area_of(s);
     let sign = r.sign;
-    let before = r.ramp;
-    let ramp = new_ramp(s, r.count, before, g, t);
+    let ramp = new_ramp(w, s, r.count, g, t);
     let waiting = r.queue + d;
     let release = flow::release_of(waiting, ramp.rate, o.bound);
     let outflow = outflow_of(h, s, f, r);
@@ -134,7 +168,7 @@ pub fn new_state_in(
     let r = case_words::state_of(rest, v);
     let o = around::neighbours(net, rest, h, i, s, r, e);
     let onramp = (s.origin == 1) & (e.segments != 0);
-    new_state(h, s, f, r, t, d, onramp, o)
+    new_state(h, s, f, rest, r, t, d, onramp, o)
 }
 
 // What follows segment i.

@@ -5,14 +5,16 @@ use metanet::Ramp;
 use metanet::SegmentState;
 use metanet::SignSetting;
 ghost use mathlib.Core.Path.{_≡_};
-ghost use Prim.Native.Nat.{_<_, _≤_};
+ghost use mathlib.Core.Bool.{_||_};
+ghost use Prim.Native.Nat.{_+_, _*_, _<_, _≤_};
+ghost use lib.ListN.{length};
 ghost use Rattle.laws.specs.First.{firstOf};
 ghost use Rattle.format.specs.Words.{headIn, entryIn, segmentIn};
 ghost use Rattle.format.proofs.Accepted.{SegmentsKept};
 ghost use Rattle.metanet.specs.Step.{onRamp};
 ghost use Rattle.metanet.proofs.Ready.{CaseAt};
-ghost use Rattle.metanet.specs.Sound.{signBad, hasAlinea, openBad, fixedBad, alineaBad, settingBad, flowsBad, speedBad, stateBad, totalsBad};
-ghost use Rattle.metanet.proofs.InWords.{stateNumberIn, caseNumberIn};
+ghost use Rattle.metanet.specs.Sound.{signBad, hasAlinea, openBad, fixedBad, alineaBad, settingBad, flowsBad, speedBad, averageBad, stateBad, totalsBad};
+ghost use Rattle.metanet.proofs.InWords.{stateNumberIn, caseNumberIn, meanNumberIn};
 
 fn sign_bad(r: SignSetting) -> bool
     ensures { λ x. ⌜ x ≡ signBad r ⌝ }
@@ -27,7 +29,7 @@ fn sign_bad(r: SignSetting) -> bool
 fn has_alinea(r: Ramp) -> bool
     ensures { λ x. ⌜ x ≡ hasAlinea r ⌝ }
 {
-    (0 < r.target) | (0 < r.gain) | (0 < r.least) | (0 < r.interval)
+    (0 < r.target) | (0 < r.gain) | (0 < r.least) | (0 < r.interval) | (0 < r.sum) | (0 < r.summed)
 }
 
 fn open_bad(most: u64, r: Ramp) -> bool
@@ -52,18 +54,31 @@ fn alinea_bad(most: u64, r: Ramp) -> bool
         | arrays::outside(r.least, r.rate, most)
 }
 
-// m says whether the segment may be metered; most is its Q.
-fn setting_bad(m: bool, most: u64, r: Ramp) -> bool
-    ensures { λ x. ⌜ x ≡ settingBad m most r ⌝ }
+// S and m.
+fn average_bad(sum: u64, summed: u64) -> bool
+    ensures { λ r. ⌜ r ≡ averageBad sum summed ⌝ }
+{
+    (60000000000000 < sum) | (60 < summed)
+}
+
+// The ramp of segment i: its setting, or S or m; most is the segment's Q. Whether it may be metered is looked for only where it is, since
+// every call judges all. An open or fixed ramp has none of S and m, so that only those of ALINEA can pass their bounds.
+fn ramp_bad(net: &[u64], i: usize, most: u64, r: Ramp) -> bool
+    requires { ⌜ SegmentsKept (now net) (headIn (now net)) ⌝ }
+    requires { ⌜ i < headIn (now net) .size ⌝ }
+    ensures { λ x. ⌜ x ≡ (settingBad (onRamp (headIn (now (net .entry))) (entryIn (now (net .entry))) (segmentIn (now (net .entry))) i) most r || averageBad (r .sum) (r .summed)) ⌝ }
 {
     if r.kind == 0 {
         return open_bad(most, r);
     }
+    if !case_words::is_on_ramp(net, i) {
+        return true;
+    }
     if r.kind == 1 {
-        return !m | fixed_bad(most, r);
+        return fixed_bad(most, r);
     }
     if r.kind == 2 {
-        return !m | alinea_bad(most, r);
+        return alinea_bad(most, r) | average_bad(r.sum, r.summed);
     }
     true
 }
@@ -82,10 +97,11 @@ fn speed_bad(f: u64, v: f64) -> bool
     !((case_words::whole(1000) <= v) & (v <= case_words::whole(f)))
 }
 
-// One segment's part of a case.
-fn state_bad(m: bool, s: Segment, f: u64, r: SegmentState) -> bool
-    requires { ⌜ f ≤ 200000 ⌝ }
-    ensures { λ x. ⌜ x ≡ stateBad m s f r ⌝ }
+// The state r of segment i, which is s; f is F.
+fn state_bad(net: &[u64], i: usize, s: Segment, f: u64, r: SegmentState) -> bool
+    requires { ⌜ SegmentsKept (now net) (headIn (now net)) ⌝ }
+    requires { ⌜ (i < headIn (now net) .size) × (f ≤ 200000) ⌝ }
+    ensures { λ x. ⌜ x ≡ stateBad (onRamp (headIn (now (net .entry))) (entryIn (now (net .entry))) (segmentIn (now (net .entry))) i) s f r ⌝ }
 {
     let sign = r.sign;
     let ramp = r.ramp;
@@ -94,20 +110,8 @@ fn state_bad(m: bool, s: Segment, f: u64, r: SegmentState) -> bool
         | (1000000000000 < r.queue)
         | flows_bad(flows)
         | sign_bad(sign)
-        | setting_bad(m, s.most, ramp)
         | speed_bad(f, r.speed)
-}
-
-// Whether segment i may be metered; looked for only where a setting of this kind asks for it, since every call judges all.
-fn may_meter(net: &[u64], kind: u64, i: usize) -> bool
-    requires { ⌜ SegmentsKept (now net) (headIn (now net)) ⌝ }
-    requires { ⌜ i < headIn (now net) .size ⌝ }
-    ensures { λ r. ⌜ (0 < kind → r ≡ onRamp (headIn (now (net .entry))) (entryIn (now (net .entry))) (segmentIn (now (net .entry))) i) ⌝ }
-{
-    if kind == 0 {
-        return false;
-    }
-    case_words::is_on_ramp(net, i)
+        | ramp_bad(net, i, s.most, ramp)
 }
 
 // 12, of state i of the case.
@@ -122,8 +126,7 @@ fn state_number(words: &[u64], speeds: &[f64], at: usize, from: usize, n: usize,
     let a = at + 16 * i;
     let b = from + i;
     let r = case_words::state_of(&words[a..], speeds[b]);
-    let ramp = r.ramp;
-    if state_bad(may_meter(net, ramp.kind, i), s, f, r) {
+    if state_bad(net, i, s, f, r) {
         return 12;
     }
     0
@@ -139,6 +142,22 @@ fn states_number(words: &[u64], speeds: &[f64], at: usize, from: usize, n: usize
         let r = state_number(words, speeds, at, from, n, i);
         if r != 0 {
             return r;
+        }
+        i += 1;
+    }
+    0
+}
+
+// 12, of the first of n states from word at on whose S or m passes its bound.
+pub(crate) fn means_number(words: &[u64], at: usize, n: usize) -> u64
+    requires { ⌜ (n ≤ 40) × (at + 16 * n ≤ length (now words)) ⌝ }
+    ensures { λ r. ⌜ r ≡ firstOf (meanNumberIn (now (words .entry)) at) n ⌝ }
+{
+    let mut i = 0;
+    while i < n {
+        let a = at + 16 * i;
+        if average_bad(words[a + 12], words[a + 13]) {
+            return 12;
         }
         i += 1;
     }

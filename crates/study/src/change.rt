@@ -54,10 +54,12 @@ fn plain_ramp(kind: u64, rate: u64) -> Ramp
         gain: 0,
         least: 0,
         interval: 0,
+        sum: 0,
+        summed: 0,
     }
 }
 
-// R of an open segment is its Q, and ALINEA begins at R = Q; most is Q.
+// R of an open segment is its Q, and ALINEA begins at R = Q, with nothing summed; most is Q.
 fn ramp_for(most: u64, setting: Setting) -> Ramp
     ensures { λ r. ⌜ r ≡ rampFor most setting ⌝ }
 {
@@ -76,6 +78,8 @@ fn ramp_for(most: u64, setting: Setting) -> Ramp
             gain,
             least,
             interval,
+            sum: 0,
+            summed: 0,
         },
     }
 }
@@ -91,4 +95,6 @@ pub(crate) fn put_setting(state: &mut [u64], most: u64, setting: Setting)
     state[7] = ramp.gain;
     state[8] = ramp.least;
     state[9] = ramp.interval;
+    state[12] = ramp.sum;
+    state[13] = ramp.summed;
 }

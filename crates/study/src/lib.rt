@@ -45,15 +45,13 @@ pub fn meter(words: &mut [u64], speeds: &[f64], i: u64, setting: Setting) -> Ver
 pub fn step(words: &mut [u64], speeds: &mut [f64], arrivals: &[u32]) -> Verdict
     ensures { λ r. ⌜ Performs (item (stepped (now (arrivals .entry)))) (now (words .entry)) (now (speeds .entry)) (verdictSays r) (now (words .exit)) (now (speeds .exit)) ⌝ }
 {
-    let listed = calls::listed_number(words, speeds, arrivals);
-    if listed != 0 {
-        return Verdict::Refused(listed);
-    }
-    let n = words[1] as usize;
-    let r = rows::step_row(words, speeds, arrivals, n);
+    let r = calls::step_number(words, speeds, arrivals);
     if r != 0 {
         return Verdict::Refused(r);
     }
+    let n = words[1] as usize;
+    let vehicles = case_words::vehicles_in(words, FIRST_CASE, n);
+    rows::accepted_step(words, speeds, arrivals, n, vehicles);
     Verdict::Accepted
 }
 

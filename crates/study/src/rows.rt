@@ -6,15 +6,38 @@ use refusal::calls;
 ghost use mathlib.Core.Path.{_≡_};
 ghost use Prim.Native.Nat.{_<_};
 ghost use lib.ListN.{length, replicate};
+ghost use Rattle.laws.specs.Sums.{sumOf};
 ghost use Rattle.survey_file.specs.File.{rowsOn, rowOn, rowsIn};
 ghost use Rattle.survey_file.proofs.Accepted.{AcceptedSurvey};
-ghost use Rattle.book.specs.Perform.{lent, perform, Gives};
+ghost use Rattle.metanet.specs.Line.{stepped};
+ghost use Rattle.metanet.proofs.Ready.{vehiclesAt};
+ghost use Rattle.book.specs.Arrangement.{sizeAt};
+ghost use Rattle.book.specs.Calls.{item};
+ghost use Rattle.book.specs.Perform.{lent, refusalAt, stored, perform, Gives};
 ghost use Rattle.book.specs.Run.{runRows, ranSays};
 ghost use Rattle.book.proofs.Rows.{RowReady};
 ghost use Rattle.study.specs.Rows.{RowTaken};
 
-// One step, on a study that is sound but perhaps for the totals of its live case: the number that refuses it, or 0.
-pub(crate) fn step_row(words: &mut [u64], speeds: &mut [f64], arrivals: &[u32], n: usize) -> u64
+// The step of the live case of n segments, which nothing refuses; vehicles is its mv.
+pub(crate) fn accepted_step(
+    words: &mut [u64],
+    speeds: &mut [f64],
+    arrivals: &[u32],
+    n: usize,
+    vehicles: u64,
+)
+    requires { ⌜ refusalAt (item (stepped (now arrivals))) (lent (now words) (now speeds)) ≡ 0 ⌝ }
+    requires { ⌜ (n ≡ sizeAt (now words)) × (vehicles ≡ sumOf (vehiclesAt (now words) 2576) n) ⌝ }
+    ensures { λ _. ⌜ now (words .exit) ≡ stored (item (stepped (now (arrivals .entry)))) (lent (now (words .entry)) (now (speeds .entry))) .words ⌝ }
+    ensures { λ _. ⌜ now (speeds .exit) ≡ stored (item (stepped (now (arrivals .entry)))) (lent (now (words .entry)) (now (speeds .entry))) .speeds ⌝ }
+{
+    let runs = words[RUN_WORD];
+    model::step(words, speeds, arrivals, FIRST_CASE, 0, n, vehicles);
+    words[RUN_WORD] = runs + 1;
+}
+
+// A row as a step, on a study that is sound but perhaps for S, m and the totals of its live case: the number that refuses it, or 0.
+fn step_row(words: &mut [u64], speeds: &mut [f64], arrivals: &[u32], n: usize) -> u64
     requires { ⌜ RowReady (now words) (now speeds) n ⌝ }
     requires { ⌜ length (now arrivals) ≡ n ⌝ }
     ensures { λ r. ⌜ RowTaken (now (words .entry)) (now (speeds .entry)) (now (arrivals .entry)) r (now (words .exit)) (now (speeds .exit)) ⌝ }
@@ -24,9 +47,7 @@ pub(crate) fn step_row(words: &mut [u64], speeds: &mut [f64], arrivals: &[u32], 
     if r != 0 {
         return r;
     }
-    let runs = words[RUN_WORD];
-    model::step(words, speeds, arrivals, FIRST_CASE, 0, n, vehicles);
-    words[RUN_WORD] = runs + 1;
+    accepted_step(words, speeds, arrivals, n, vehicles);
     0
 }
 

@@ -38,17 +38,6 @@ pub fn alinea(random: &mut Random, segment: &Segment, state: &mut SegmentState) 
     };
 }
 
-/// N in mv so near the target that q is 0 or little more, on either side.
-pub fn near_target(random: &mut Random, segment: &Segment, alinea: &Alinea) -> u64 {
-    let metres = segment.lane_metres();
-    let aim = alinea.target * metres;
-    let off = random.edge(0, 3 * metres / alinea.gain + 1);
-    match random.once_in(2) {
-        true => aim + off,
-        false => aim.saturating_sub(off),
-    }
-}
-
 /// z of a setting, 1 where it has none.
 pub fn interval(setting: &Setting) -> u64 {
     match setting {

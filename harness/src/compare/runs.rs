@@ -4,13 +4,13 @@
 use super::both::Both;
 use super::{steps, Difference};
 use crate::arrays::Arrays;
-use crate::calls::{Call, RUN_FIGURES};
-use crate::cases::{MOST_ARRIVING, MOST_MV, MOST_STEPS, MOST_TIME};
+use crate::calls::{Answer, Call, RUN_FIGURES};
+use crate::cases::{MOST_ARRIVING, MOST_COLLECTED, MOST_MV, MOST_STEPS, MOST_SUM, MOST_TIME};
 use crate::engine::study_step;
 use crate::random::Random;
 use crate::study::{Study, MOST_RUNS};
 use crate::surveys::Day;
-use oracle::case::Case;
+use oracle::case::{Case, Setting};
 
 pub fn one(random: &mut Random, index: u64) -> Result<(), Difference> {
     let (mut study, mut what) = steps::study(random, index);
@@ -21,7 +21,8 @@ pub fn one(random: &mut Random, index: u64) -> Result<(), Difference> {
         day.spoil_row(random, &study.network);
     }
     what += &format!(", {end:?}, {} rows", day.rows().len());
-    run(study.laid(random), &day).map_err(|difference| difference.of(&what))
+    run(study.laid(random), &day).map_err(|difference| difference.of(&what))?;
+    Ok(())
 }
 
 /// What is near its end before the run.
@@ -34,9 +35,10 @@ enum End {
     Arrivals,
     Exits,
     Time,
+    Means,
 }
 
-const END: [End; 7] = [
+const END: [End; 8] = [
     End::None,
     End::Steps,
     End::Runs,
@@ -44,6 +46,7 @@ const END: [End; 7] = [
     End::Arrivals,
     End::Exits,
     End::Time,
+    End::Means,
 ];
 
 /// Brings a figure so near its end that some row meets it, mostly.
@@ -62,6 +65,7 @@ fn put_at_end(random: &mut Random, study: &mut Study, end: End, rows: u64) {
             let grows = u64::from(study.network.step) * present * rows;
             case.time = MOST_TIME - random.below(grows + 1).min(MOST_TIME);
         }
+        End::Means => collect(random, case, rows),
     }
 }
 
@@ -73,8 +77,25 @@ fn wait(case: &mut Case, waiting: u64) {
     case.segments[0].queue = waiting;
 }
 
+/// Every ALINEA ramp has collected so much that a few steps without a turn pass
+/// a bound.
+fn collect(random: &mut Random, case: &mut Case, rows: u64) {
+    for state in &mut case.segments {
+        match state.setting {
+            Setting::Alinea(_) if random.once_in(2) => {
+                state.collected.steps = MOST_COLLECTED - random.edge(0, rows.min(MOST_COLLECTED));
+            }
+            Setting::Alinea(_) => {
+                let few = state.count * random.edge(0, rows);
+                state.collected.sum = MOST_SUM - few.min(MOST_SUM);
+            }
+            Setting::Open | Setting::Fixed(_) => {}
+        }
+    }
+}
+
 /// A run does what single steps do, up to the first that is refused.
-fn run(arrays: Arrays, day: &Day) -> Result<(), Difference> {
+pub fn run(arrays: Arrays, day: &Day) -> Result<Answer, Difference> {
     let mut stepped = arrays.clone();
     let mut both = Both::new(arrays);
     let file = day.file().into();
@@ -93,5 +114,6 @@ fn run(arrays: Arrays, day: &Day) -> Result<(), Difference> {
         let what = format!("{:?}, by single steps {figures:?}", answer.figures);
         return Err(both.differs(&what));
     }
-    both.expect_arrays(&stepped)
+    both.expect_arrays(&stepped)?;
+    Ok(answer)
 }

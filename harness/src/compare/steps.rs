@@ -8,7 +8,7 @@ use crate::cases::{self, arrivals};
 use crate::made::fill_slots;
 use crate::networks::{calm_road, road};
 use crate::random::Random;
-use crate::reached::{junctions, mainstream};
+use crate::reached;
 use crate::study::{Study, MOST_RUNS};
 
 /// Numbers of segments that come up often.
@@ -39,8 +39,7 @@ fn take(random: &mut Random, study: &Study) -> Result<(), Difference> {
     let mut both = Both::new(study.laid(random));
     let first = arrivals(random, &study.network);
     let live = study.cases[0].as_ref().expect("a live case");
-    mainstream::note(&study.network, live, &first);
-    junctions::note(&study.network, live, &first);
+    reached::note_step(&study.network, live, &first);
     both.expect(Call::Step(first.into()), 0)?;
     // The first step may bring the case past a bound: then this one is 12.
     let second = arrivals(random, &study.network);

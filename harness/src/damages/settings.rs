@@ -2,9 +2,10 @@
 
 use super::ramps::{close, leave_open, most_released, put_alinea, set, spoil, spoil_open_rate};
 use super::{unsound, Damage, Part, ToCase};
-use crate::cases::{alinea, fixed};
+use crate::cases::{alinea, fixed, MOST_COLLECTED, MOST_SUM};
 use crate::random::Random;
-use crate::stored_case::{state_word, CaseDraft, CODE, GAIN, INTERVAL, LEAST, RATE, TARGET};
+use crate::stored_case::{state_word, CaseDraft};
+use crate::stored_case::{CODE, GAIN, INTERVAL, LEAST, RATE, SUM, SUM_STEPS, TARGET};
 
 /// At segment 1.
 const fn first(name: &'static str, apply: ToCase) -> Damage<CaseDraft> {
@@ -34,6 +35,8 @@ pub const DAMAGES: &[Damage<CaseDraft>] = &[
     first("gain of segment 1", unused_word::<GAIN>),
     first("least of segment 1", unused_word::<LEAST>),
     first("z of segment 1", unused_word::<INTERVAL>),
+    first("S of segment 1", unused_word::<SUM>),
+    first("m of segment 1", unused_word::<SUM_STEPS>),
     source("fixed at a mainstream origin", |draft, place, _| {
         draft.words[state_word(place, CODE)] = 1
     }),
@@ -43,6 +46,8 @@ pub const DAMAGES: &[Damage<CaseDraft>] = &[
     source("gain of a mainstream origin", unused_word::<GAIN>),
     source("least of a mainstream origin", unused_word::<LEAST>),
     source("z of a mainstream origin", unused_word::<INTERVAL>),
+    source("S of a mainstream origin", unused_word::<SUM>),
+    source("m of a mainstream origin", unused_word::<SUM_STEPS>),
     later("fixed without an origin", |draft, place, _| {
         close(draft, place);
         draft.words[state_word(place, CODE)] = 1
@@ -59,6 +64,8 @@ pub const DAMAGES: &[Damage<CaseDraft>] = &[
     later("gain without an origin", closed_word::<GAIN>),
     later("least without an origin", closed_word::<LEAST>),
     later("z without an origin", closed_word::<INTERVAL>),
+    later("S without an origin", closed_word::<SUM>),
+    later("m without an origin", closed_word::<SUM_STEPS>),
     later("R of an open ramp", |draft, place, random| {
         set(draft, place, random, leave_open);
         spoil_open_rate(draft, place, random)
@@ -67,6 +74,8 @@ pub const DAMAGES: &[Damage<CaseDraft>] = &[
     later("gain of an open ramp", open_word::<GAIN>),
     later("least of an open ramp", open_word::<LEAST>),
     later("z of an open ramp", open_word::<INTERVAL>),
+    later("S of an open ramp", open_word::<SUM>),
+    later("m of an open ramp", open_word::<SUM_STEPS>),
     later("R of a fixed ramp", |draft, place, random| {
         set(draft, place, random, fixed);
         let most = most_released(draft, place);
@@ -76,10 +85,14 @@ pub const DAMAGES: &[Damage<CaseDraft>] = &[
     later("gain of a fixed ramp", fixed_word::<GAIN>),
     later("least of a fixed ramp", fixed_word::<LEAST>),
     later("z of a fixed ramp", fixed_word::<INTERVAL>),
+    later("S of a fixed ramp", fixed_word::<SUM>),
+    later("m of a fixed ramp", fixed_word::<SUM_STEPS>),
     later("target", alinea_word::<TARGET, 1, 199>),
     later("gain", alinea_word::<GAIN, 1, 60_000>),
     later("least above Q", alinea_above_most::<LEAST>),
     later("z", alinea_word::<INTERVAL, 1, 60>),
+    later("S", alinea_word::<SUM, 0, MOST_SUM>),
+    later("m", alinea_word::<SUM_STEPS, 0, MOST_COLLECTED>),
     later("R above Q", alinea_above_most::<RATE>),
     later("R below the least", |draft, place, random| {
         set(draft, place, random, alinea);

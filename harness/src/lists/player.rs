@@ -5,7 +5,8 @@ use super::calls;
 use crate::arrays::Arrays;
 use crate::calls::{ask_engine, Answer, Call};
 use crate::random::Random;
-use crate::study::{speeds_for, words_for};
+use crate::stored_case::{state_word, SUM, SUM_STEPS};
+use crate::study::{case_word, speeds_for, words_for};
 
 pub struct Player {
     /// As long as the longest lengths of the list and more, garbage at first.
@@ -93,6 +94,13 @@ impl Player {
             Some(what) => Err(format!("{function:?}: {what}")),
             None => Ok(()),
         }
+    }
+
+    /// S and m of a segment (from 0) of a case, which no report shows.
+    pub fn collected(&self, case: usize, place: usize) -> [u64; 2] {
+        let n = usize::from(self.file[6]);
+        let state = &self.arrays.words[case_word(n, case) + state_word(place, 0)..];
+        [state[SUM], state[SUM_STEPS]]
     }
 
     /// What the study of the last accepted start needs may have changed.

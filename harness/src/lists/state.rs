@@ -1,4 +1,5 @@
-//! The state at the end of a list, as reports show it.
+//! The state at the end of a list, as reports show it; S and m as they stand in
+//! the words.
 
 use super::arguments::parse;
 use super::calls::{CASE_FIGURES, SEGMENT_FIGURES};
@@ -9,11 +10,12 @@ use oracle::book::SLOTS;
 /// An empty slot.
 const EMPTY: u64 = 23;
 
-/// A case: its report, and that of each of its segments.
+/// A case: its report, that of each of its segments, and their S and m.
 #[derive(Default)]
 struct Case {
     figures: [u64; CASE_FIGURES],
     segments: Vec<[u64; SEGMENT_FIGURES]>,
+    collected: Vec<[u64; 2]>,
 }
 
 /// Run count, which slots are filled, and all figures of each case.
@@ -41,6 +43,8 @@ pub fn expect<'a>(player: &mut Player, lines: impl Iterator<Item = &'a str>) -> 
             return Err(format!("no mark, or no case {number}"));
         }
         report(player, number as u64, case.map(|(_, case)| case))?;
+        let collected = case.map_or(&[][..], |(_, case)| &case.collected);
+        compare(player, number, collected)?;
     }
     Ok(())
 }
@@ -59,6 +63,18 @@ fn report(player: &mut Player, number: u64, case: Option<&Case>) -> Result<(), S
         let of_segment = question(Question::Segment(segment), SEGMENT_FIGURES);
         ask(player, &of_segment, Some(figures))
     })
+}
+
+/// S and m of each segment of a case.
+fn compare(player: &Player, number: usize, collected: &[[u64; 2]]) -> Result<(), String> {
+    for (place, expected) in collected.iter().enumerate() {
+        let engine = player.collected(number, place);
+        if engine != *expected {
+            let what = format!("S and m of segment {} in case {number}", place + 1);
+            return Err(format!("{what}: expected {expected:?}, engine {engine:?}"));
+        }
+    }
+    Ok(())
 }
 
 fn ask(player: &mut Player, call: &Call, figures: Option<&[u64]>) -> Result<(), String> {
@@ -80,7 +96,8 @@ fn begun(words: &[&str]) -> Result<Case, String> {
 }
 
 impl Case {
-    /// The next segment: N, s, bits of v, w, last outflow, last release, R.
+    /// The next segment: N, s, bits of v, w, last outflow, last release, R;
+    /// S and m.
     fn add(&mut self, words: &[&str]) -> Result<(), String> {
         let figure = |name| after(words, name).and_then(parse);
         let bits = u64::from_str_radix(after(words, "v")?, 16).map_err(|_| "no bits")?;
@@ -92,6 +109,7 @@ impl Case {
         let rate = figure("R")?;
         self.segments
             .push([count, whole, bits, queue, outflow, release, rate]);
+        self.collected.push([figure("S")?, figure("m")?]);
         Ok(())
     }
 }

@@ -3,6 +3,7 @@
 
 mod met;
 
+use super::lines::{self, Counts, Line};
 use super::say_line;
 use crate::words::field_word;
 use met::Met;
@@ -11,13 +12,11 @@ use oracle::file::Network;
 use oracle::step::flows::Flows;
 use std::sync::atomic::{AtomicU64, Ordering::Relaxed};
 
-/// Something met, in words.
-type Way = (&'static str, fn(&Met) -> bool);
-
-/// The lines of the table, and all that must have come up in them.
-const LINES: [(&str, &[Way]); 6] = [
+/// Each is about all that is met.
+const LINES: [Line<Met>; 6] = [
     (
         "version 2, networks",
+        |_| true,
         &[
             ("chains", |met| met.is_on(|roads| roads.chain)),
             ("two ends", |met| met.is_on(|roads| roads.ends == 2)),
@@ -32,6 +31,7 @@ const LINES: [(&str, &[Way]); 6] = [
     ),
     (
         "segments that enter",
+        |_| true,
         &[
             ("none", |met| met.entering.is_empty()),
             ("one", |met| met.entering.len() == 1),
@@ -44,6 +44,7 @@ const LINES: [(&str, &[Way]); 6] = [
     ),
     (
         "several enter",
+        |_| true,
         &[
             ("no outflow", |met| met.several() && met.outflow() == 0),
             ("some without outflow", |met| {
@@ -56,6 +57,7 @@ const LINES: [(&str, &[Way]); 6] = [
     ),
     (
         "shares that enter",
+        |_| true,
         &[
             ("0", |met| met.enters_with(|share| share == 0)),
             ("between", |met| {
@@ -66,6 +68,7 @@ const LINES: [(&str, &[Way]); 6] = [
     ),
     (
         "followers",
+        |_| true,
         &[
             ("none", |met| met.ahead.is_empty()),
             ("one", |met| met.ahead.len() == 1),
@@ -75,6 +78,7 @@ const LINES: [(&str, &[Way]); 6] = [
     ),
     (
         "two followers",
+        |_| true,
         &[
             ("both empty", |met| met.empty_ahead() == Some(2)),
             ("one empty", |met| met.empty_ahead() == Some(1)),
@@ -83,11 +87,7 @@ const LINES: [(&str, &[Way]); 6] = [
     ),
 ];
 
-/// Most ways of a line.
-const WAYS: usize = 7;
-
-static COUNTS: [[AtomicU64; WAYS]; LINES.len()] =
-    [const { [const { AtomicU64::new(0) }; WAYS] }; LINES.len()];
+static COUNTS: [Counts; LINES.len()] = [const { lines::none() }; LINES.len()];
 
 /// Where Meter was refused by 19.
 const NO_RAMP: [&str; 3] = ["segment 1", "no origin", "mainstream origin past segment 1"];
@@ -105,13 +105,7 @@ pub fn note(network: &Network, case: &Case, arrivals: &[u32]) {
         .collect();
     for place in 0..n {
         let met = Met::of(network, case, &flows, place);
-        for ((_, ways), counts) in LINES.iter().zip(&COUNTS) {
-            for ((_, is_it), count) in ways.iter().zip(counts) {
-                if is_it(&met) {
-                    count.fetch_add(1, Relaxed);
-                }
-            }
-        }
+        lines::count(&LINES, &COUNTS, &met);
     }
 }
 
@@ -128,10 +122,5 @@ pub fn note_no_ramp(words: &[u64], segment: u64) {
 
 /// Prints the lines. Answers whether everything in them came up.
 pub fn say() -> bool {
-    let mut complete = true;
-    for ((name, ways), counts) in LINES.iter().zip(&COUNTS) {
-        let ways = ways.iter().zip(counts);
-        complete &= say_line(name, ways.map(|(way, count)| (way.0, count)));
-    }
-    complete & say_line("meter refused by 19", NO_RAMP.iter().zip(&REFUSED))
+    lines::say(&LINES, &COUNTS) & say_line("meter refused by 19", NO_RAMP.iter().zip(&REFUSED))
 }

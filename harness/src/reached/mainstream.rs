@@ -1,13 +1,12 @@
 //! What compared steps met at a mainstream origin: how y stood to the curve's
 //! entry at C, whether its bound was the least, and which density g was.
 
-use super::say_line;
+use super::lines::{self, Counts, Line, Way};
 use oracle::case::{Case, SegmentState};
 use oracle::file::{Network, Segment};
 use oracle::network::Origin;
 use oracle::step::origin::{greatest_density, limiting_speed, speed_bound};
 use std::cmp::Ordering;
-use std::sync::atomic::{AtomicU64, Ordering::Relaxed};
 
 struct Met {
     /// y is the speed of a sign, and not s.
@@ -22,33 +21,27 @@ struct Met {
     level: bool,
 }
 
-/// Something met, in words.
-type Way = (&'static str, fn(&Met) -> bool);
-
-const BOUNDS: [Way; 4] = [
+const BOUNDS: &[Way<Met>] = &[
     ("least", |met| met.least),
     ("not least", |met| met.y.is_lt() && !met.least),
     ("none at the entry at C", |met| met.y.is_eq()),
     ("none above it", |met| met.y.is_gt()),
 ];
 
-const DENSITIES: [Way; 4] = [
+const DENSITIES: &[Way<Met>] = &[
     ("C", |met| met.g.0.is_eq()),
     ("between", |met| met.g.0.is_gt() && met.g.1.is_lt()),
     ("J", |met| met.g.1.is_eq()),
     ("several entries are y", |met| met.level),
 ];
 
-/// The lines of the table: which steps each is about, and all that must have
-/// come up in them.
-const LINES: [(Way, [Way; 4]); 3] = [
-    (("mainstream, y by s", |met| !met.by_sign), BOUNDS),
-    (("mainstream, y by sign", |met| met.by_sign), BOUNDS),
-    (("mainstream, g", |met| met.y.is_lt()), DENSITIES),
+const LINES: [Line<Met>; 3] = [
+    ("mainstream, y by s", |met| !met.by_sign, BOUNDS),
+    ("mainstream, y by sign", |met| met.by_sign, BOUNDS),
+    ("mainstream, g", |met| met.y.is_lt(), DENSITIES),
 ];
 
-static COUNTS: [[AtomicU64; 4]; LINES.len()] =
-    [const { [const { AtomicU64::new(0) }; 4] }; LINES.len()];
+static COUNTS: [Counts; LINES.len()] = [const { lines::none() }; LINES.len()];
 
 /// Counts what a step of this case with these arrivals meets.
 pub fn note(network: &Network, case: &Case, arrivals: &[u32]) {
@@ -56,19 +49,14 @@ pub fn note(network: &Network, case: &Case, arrivals: &[u32]) {
     for (place, (state, &arrival)) in places {
         if network.origin(place) == Origin::Mainstream {
             let waiting = state.queue + u64::from(arrival);
-            Met::of(network, &network.segments[place], state, waiting).count();
+            let met = Met::of(network, &network.segments[place], state, waiting);
+            lines::count(&LINES, &COUNTS, &met);
         }
     }
 }
 
-/// Prints the lines. Answers whether everything in them came up.
 pub fn say() -> bool {
-    let mut complete = true;
-    for (((name, _), ways), counts) in LINES.iter().zip(&COUNTS) {
-        let ways = ways.iter().zip(counts);
-        complete &= say_line(name, ways.map(|(way, count)| (way.0, count)));
-    }
-    complete
+    lines::say(&LINES, &COUNTS)
 }
 
 impl Met {
@@ -87,16 +75,6 @@ impl Met {
                 g.cmp(&u64::from(segment.jam)),
             ),
             level: g > 0 && entry(g) == y && entry(g - 1) == y,
-        }
-    }
-
-    fn count(&self) {
-        for (((_, about), ways), counts) in LINES.iter().zip(&COUNTS) {
-            for ((_, is_it), count) in ways.iter().zip(counts) {
-                if about(self) && is_it(self) {
-                    count.fetch_add(1, Relaxed);
-                }
-            }
         }
     }
 }

@@ -1,13 +1,16 @@
 //! Whole figures of a step: rate, release, outflow and its parts, in mv.
 
+use super::metering;
 use super::origin;
-use crate::case::{Alinea, SegmentState, Setting};
+use crate::case::{Collected, SegmentState};
 use crate::network::{Followers, Network, Segment};
 
 /// What one step makes at one segment.
 pub struct Flows {
     /// R after this step's change.
     pub rate: u64,
+    /// S and m after this step.
+    pub collected: Collected,
     /// mv let in from the queue.
     pub release: u64,
     /// mv that leave the segment, exit part included.
@@ -30,38 +33,20 @@ impl Flows {
         steps: u64,
     ) -> Flows {
         let segment = &network.segments[place];
-        let rate = new_rate(segment, state, steps);
+        let (rate, collected) = metering::meter(segment, state, steps);
         let waiting = state.queue + arrival;
         let road = origin::bound(network, place, state);
         let outflow = outflow(network, segment, state);
         let exit_part = outflow * u64::from(segment.exit_share) / 1000;
         Flows {
             rate,
+            collected,
             release: waiting.min(rate).min(road.unwrap_or(u64::MAX)),
             outflow,
             exit_part,
             parts: parts(segment.followers, outflow - exit_part),
         }
     }
-}
-
-/// R, moved by ALINEA where its interval divides the steps so far.
-fn new_rate(segment: &Segment, state: &SegmentState, steps: u64) -> u64 {
-    match state.setting {
-        Setting::Alinea(alinea) if steps.is_multiple_of(alinea.interval) => {
-            let most = i64::from(segment.most_released);
-            let moved = state.rate as i64 + rate_change(segment, &alinea, state.count);
-            moved.clamp(alinea.least as i64, most) as u64
-        }
-        _ => state.rate,
-    }
-}
-
-/// q = gain × (target × G − N) ÷ G, towards zero, in mv per step.
-pub fn rate_change(segment: &Segment, alinea: &Alinea, count: u64) -> i64 {
-    let lane_metres = segment.lane_metres() as i64;
-    let missing = alinea.target as i64 * lane_metres - count as i64;
-    alinea.gain as i64 * missing / lane_metres
 }
 
 /// Whole part of N × s × T ÷ (3600 × L), s the whole part of v. The bound on

@@ -1,10 +1,10 @@
 //! The state of one segment in its sixteen words: N, w, limit, compliance +
-//! 500, setting code, R, target, gain, least, z, last outflow, last release
-//! and four free words.
+//! 500, setting code, R, target, gain, least, z, last outflow, last release,
+//! S, m and two free words.
 
-use super::MOST_MV;
+use super::{MOST_COLLECTED, MOST_MV};
 use crate::book::rows::{judge_meter, judge_sign};
-use crate::case::{Alinea, SegmentState, Setting, Sign};
+use crate::case::{Alinea, Collected, SegmentState, Setting, Sign};
 use crate::network::Network;
 
 const OPEN: u64 = 0;
@@ -23,13 +23,18 @@ pub fn read(network: &Network, place: usize, words: &[u64], speed: f64) -> Optio
         sign: sign(words[2], words[3])?,
         setting: setting(words)?,
         rate: words[5],
+        collected: Collected {
+            sum: words[12],
+            steps: words[13],
+        },
         last_outflow: words[10],
         last_release: words[11],
     };
     let sound = figures_sound(&state)
         && (1_000.0..=free_speed).contains(&speed)
         && setting_sound(network, place, state.setting)
-        && rate_sound(state.setting, state.rate, most);
+        && rate_sound(state.setting, state.rate, most)
+        && collected_sound(state.setting, state.collected);
     sound.then_some(state)
 }
 
@@ -40,6 +45,7 @@ pub fn put_step(state: &SegmentState, words: &mut [u64]) {
     words[5] = state.rate;
     words[10] = state.last_outflow;
     words[11] = state.last_release;
+    put_collected(state.collected, words);
 }
 
 /// A dark sign is two words of 0.
@@ -50,10 +56,11 @@ pub fn put_sign(sign: Sign, words: &mut [u64]) {
     };
 }
 
-/// Setting and rate. Words that the setting does not use are 0.
+/// Setting, rate, S and m. Words that the setting does not use are 0.
 pub fn put_setting(state: &SegmentState, words: &mut [u64]) {
     words[4..10].fill(0);
     words[5] = state.rate;
+    put_collected(state.collected, words);
     match state.setting {
         Setting::Open => words[4] = OPEN,
         Setting::Fixed(_) => words[4] = FIXED,
@@ -65,6 +72,10 @@ pub fn put_setting(state: &SegmentState, words: &mut [u64]) {
             words[9] = alinea.interval;
         }
     }
+}
+
+fn put_collected(Collected { sum, steps }: Collected, words: &mut [u64]) {
+    [words[12], words[13]] = [sum, steps];
 }
 
 fn figures_sound(state: &SegmentState) -> bool {
@@ -114,5 +125,15 @@ fn rate_sound(setting: Setting, rate: u64, most: u64) -> bool {
         Setting::Open => rate == most,
         Setting::Fixed(fixed) => rate == fixed,
         Setting::Alinea(alinea) => (alinea.least..=most).contains(&rate),
+    }
+}
+
+/// S and m of an ALINEA ramp are bounded. Others collect nothing.
+fn collected_sound(setting: Setting, collected: Collected) -> bool {
+    match setting {
+        Setting::Open | Setting::Fixed(_) => collected == Collected::default(),
+        Setting::Alinea(_) => {
+            collected.steps <= MOST_COLLECTED && collected.sum <= MOST_COLLECTED * MOST_MV
+        }
     }
 }

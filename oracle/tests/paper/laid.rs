@@ -1,7 +1,7 @@
 //! A study laid out in arrays word by word, apart from the oracle's code.
 
 use crate::lent::Lent;
-use oracle::case::{Alinea, Case, Setting, Sign};
+use oracle::case::{Alinea, Case, Collected, Setting, Sign};
 use oracle::network::{Followers, Network};
 use oracle::study::ARRANGEMENT;
 
@@ -50,6 +50,8 @@ impl Lent {
             self.lay(at + 2, sign_words(state.sign));
             self.lay(at + 4, setting_words(state.setting, state.rate));
             self.lay(at + 10, [state.last_outflow, state.last_release]);
+            let Collected { sum, steps } = state.collected;
+            self.lay(at + 12, [sum, steps]);
             self.speeds[place] = state.speed;
         }
         let at = LIVE + 16 * case.segments.len();

@@ -4,7 +4,7 @@ use crate::networks;
 use crate::study::{ask, book, meter, number, sign, step};
 use crate::study::{ALINEA, COUNTS, QUEUES, SPEEDS};
 use oracle::book::{Book, Call, Figures, Question, Start, SLOTS};
-use oracle::case::{Setting, Sign};
+use oracle::case::{Alinea, Setting, Sign};
 use oracle::{file, survey};
 
 fn case_report(book: &mut Book, case: u64) -> Figures {
@@ -117,8 +117,10 @@ fn signs_and_meters() {
     let mut book = book();
     let alinea = Setting::Alinea(ALINEA);
     assert_eq!(number(&mut book, meter(2, alinea)), 0);
-    assert_eq!(number(&mut book, step(&[0; 3])), 0);
-    assert_eq!(rate(&mut book, 2), 3_127);
+    for _ in 0..3 {
+        assert_eq!(number(&mut book, step(&[0; 3])), 0);
+    }
+    assert_ne!(rate(&mut book, 2), 5_500);
     assert_eq!(number(&mut book, meter(2, alinea)), 0);
     assert_eq!(rate(&mut book, 2), 5_500);
     assert_eq!(number(&mut book, meter(2, Setting::Fixed(12))), 0);
@@ -171,10 +173,12 @@ pub fn with_call<Result>(number: u64, take: impl FnOnce(&Call) -> Result) -> Res
     let (kind, rest) = (number % 16, number / 16);
     let slot = rest % 8;
     let arrivals = [(rest % 20_000) as u32, (rest % 7_001) as u32, 0];
+    let interval = 1 + rest % 7;
+    let alinea = Alinea { interval, ..ALINEA };
     let setting = match rest % 3 {
         0 => Setting::Open,
         1 => Setting::Fixed(rest % 6_000),
-        _ => Setting::Alinea(ALINEA),
+        _ => Setting::Alinea(alinea),
     };
     let rows = [arrivals, [rest as u32 % 5, 0, 0], [0, 0, (rest % 2) as u32]];
     let file = survey::write(3, rows.as_flattened(), 64).expect("three rows");

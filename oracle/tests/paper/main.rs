@@ -1,6 +1,8 @@
 //! The oracle against the paper.
 
 mod arrays;
+mod average;
+mod average_in_arrays;
 mod file;
 mod junction;
 mod junction_file;
@@ -18,3 +20,4 @@ mod study;
 mod survey;
 mod worked;
 mod worked_junction;
+mod worker;

@@ -2,8 +2,8 @@
 //! figures that were worked out apart from this code.
 
 use crate::networks;
-use oracle::case::{Alinea, Case, SegmentState, Setting, Sign};
-use oracle::step::{flows, origin, speed, step};
+use oracle::case::{Alinea, Case, Collected, SegmentState, Setting, Sign};
+use oracle::step::{origin, speed, step};
 
 /// Arrivals of five steps, in mv.
 const ARRIVALS: [[u32; 3]; 5] = [
@@ -48,20 +48,6 @@ fn jam_bound_by_room() {
 }
 
 #[test]
-fn rate_change_towards_zero() {
-    let segment = &networks::tallies().segments[0];
-    let alinea = Alinea {
-        target: 30,
-        gain: 100,
-        least: 0,
-        interval: 1,
-    };
-    assert_eq!(flows::rate_change(segment, &alinea, 34_500), -450);
-    assert_eq!(flows::rate_change(segment, &alinea, 30_001), 0);
-    assert_eq!(flows::rate_change(segment, &alinea, 29_999), 0);
-}
-
-#[test]
 fn curve_between_entries() {
     let mut curve = [80_000; 201];
     curve[21..].fill(79_000);
@@ -99,14 +85,16 @@ fn three_segments_for_five_steps() {
         let all: Vec<u64> = case.segments.iter().map(figure).collect();
         all
     };
-    let bits = [0x40ea7f78976afd1e, 0x40ea42d8bfb7ae57, 0x40f355016e213daf];
-    assert_eq!(figures(|state| state.count), [29_482, 46_429, 68_911]);
+    let bits = [0x40e919872b8e59a4, 0x40ea409d6b2dc11c, 0x40f35bc22f08edcb];
+    assert_eq!(figures(|state| state.count), [30_418, 42_663, 70_822]);
     assert_eq!(figures(|state| state.speed.to_bits()), bits);
-    assert_eq!(figures(|state| state.queue), [0, 7_054, 0]);
-    assert_eq!(figures(|state| state.rate), [16_000, 5_500, 0]);
-    assert_eq!(figures(|state| state.last_outflow), [6_488, 10_654, 17_011]);
-    assert_eq!(figures(|state| state.last_release), [9_000, 5_500, 0]);
-    assert_eq!(tally(&case), [5, 144_822, 7_054, 50_107, 86_250, 8_741_450]);
+    assert_eq!(figures(|state| state.queue), [0, 7_066, 0]);
+    assert_eq!(figures(|state| state.rate), [16_000, 400, 0]);
+    assert_eq!(figures(|state| state.collected.sum), [0, 47_761, 0]);
+    assert_eq!(figures(|state| state.collected.steps), [0, 1, 0]);
+    assert_eq!(figures(|state| state.last_outflow), [6_098, 11_127, 17_493]);
+    assert_eq!(figures(|state| state.last_release), [9_000, 400, 0]);
+    assert_eq!(tally(&case), [5, 143_903, 7_066, 50_107, 87_157, 8_735_890]);
 }
 
 /// The same for forty steps. The bits of all speeds on the way are folded
@@ -124,8 +112,13 @@ fn three_segments_for_forty_steps() {
                 .wrapping_add(state.speed.to_bits());
         }
     }
-    assert_eq!(folded, 0x50cb_0f79_a359_0c3f);
-    assert_eq!(tally(&case), [40, 95_757, 0, 400_856, 493_118, 47_215_140]);
+    assert_eq!(folded, 0xed28_fe64_15a4_7af1);
+    assert_eq!(tally(&case), [40, 95_759, 0, 400_856, 493_116, 47_155_320]);
+    let collected = Collected {
+        sum: 68_706,
+        steps: 2,
+    };
+    assert_eq!(case.segments[1].collected, collected);
 }
 
 /// A jam ahead would bring the speed below 1,000 m/h, an empty road ahead of
@@ -160,23 +153,6 @@ fn a_segment_may_be_fuller_than_a_jam() {
     assert_eq!(case.segments[0].queue, 6_001);
     assert_eq!(case.segments[0].last_outflow, 5_555);
     assert_eq!(case.segments[0].count, 995_445);
-}
-
-/// The rate moves in the steps whose number on the line z divides, 0 among
-/// them, and that step's release is bounded by the moved rate.
-#[test]
-fn alinea_moves_at_its_interval() {
-    let network = networks::three_segments();
-    let mut case = three_segment_start();
-    let mut rates = Vec::new();
-    for _ in 0..4 {
-        step(&network, &mut case, &[0; 3]);
-        rates.push(case.segments[1].rate);
-    }
-    assert_eq!(rates[0], 3_127);
-    assert_eq!(rates[1], rates[0]);
-    assert_ne!(rates[2], rates[1]);
-    assert_eq!(rates[3], rates[2]);
 }
 
 /// A start case of three segments; the second has a sign and ALINEA.

@@ -110,7 +110,11 @@ fn twelve_for_words_of_a_segment_state() {
     assert_ends(STATE + 9, &[1, 60], &[0, 61]);
     assert_ends(STATE + 10, &[most], &[most + 1]);
     assert_ends(STATE + 11, &[most], &[most + 1]);
-    assert_ends(STATE + 15, &[0, u64::MAX], &[]);
+    assert_ends(STATE + 12, &[0, 60 * most], &[60 * most + 1, u64::MAX]);
+    assert_ends(STATE + 13, &[0, 60], &[61, 1 << 32, u64::MAX]);
+    for free in [14, 15] {
+        assert_ends(STATE + free, &[0, u64::MAX], &[]);
+    }
 }
 
 /// Segment 1 is open with a dark sign, segment 3 has no origin besides.
@@ -119,8 +123,9 @@ fn twelve_for_what_an_open_segment_keeps() {
     assert_ends(STATE - 16 + 3, &[], &[1, 500]);
     assert_ends(STATE - 16 + 4, &[], &[1, 2, 3]);
     assert_ends(STATE - 16 + 5, &[], &[0, 15_999, 16_001]);
-    for word in 6..10 {
+    for word in [6, 7, 8, 9, 12, 13] {
         assert_ends(STATE - 16 + word, &[0], &[1, 1 << 40]);
+        assert_ends(STATE + 16 + word, &[0], &[1, 1 << 40]);
     }
     assert_ends(STATE + 16 + 1, &[1], &[]);
     assert_ends(STATE + 16 + 4, &[], &[1]);

@@ -13,9 +13,17 @@ const FREE_SPEED: f64 = 102_000.0;
 const CRITICAL: f64 = 33.5;
 const EXPONENT: f64 = 1.867;
 
+const ALINEA: Alinea = Alinea {
+    target: 30,
+    gain: 200,
+    least: 500,
+    interval: 6,
+};
+
 /// Segments and curves of the roads that are timed.
 pub const ROADS: [(usize, usize); 3] = [(1, 1), (12, 2), (40, 8)];
-/// The same of those with junctions.
+/// The same of those with ramps past segment 1, and of those with junctions.
+pub const RAMPS: [(usize, usize); 2] = [(12, 2), (40, 8)];
 pub const JUNCTIONS: [(usize, usize); 2] = [(12, 2), (40, 8)];
 /// Steps after which the count begins at 0 again.
 pub const LINE_STEPS: u64 = 20_000;
@@ -76,6 +84,21 @@ pub fn traffic(network: &Network) -> Case {
         if place % 3 == 1 {
             let (limit, compliance) = (80, 50);
             state.sign = Sign::Shown { limit, compliance };
+        }
+    }
+    case
+}
+
+/// The same traffic with ALINEA at every ramp, which moves its rate in every
+/// step.
+pub fn metered(network: &Network) -> Case {
+    let mut case = traffic(network);
+    let both = case.segments.iter_mut().zip(&network.segments);
+    for (place, (state, segment)) in both.enumerate() {
+        if network.origin(place) == Origin::Ramp {
+            let interval = 1;
+            let alinea = Alinea { interval, ..ALINEA };
+            state.set_meter(segment, Setting::Alinea(alinea));
         }
     }
     case
@@ -143,12 +166,7 @@ fn curve(number: usize) -> Curve {
 fn setting(place: usize) -> Setting {
     match place / 4 % 3 {
         0 => Setting::Open,
-        1 => Setting::Alinea(Alinea {
-            target: 30,
-            gain: 200,
-            least: 500,
-            interval: 6,
-        }),
+        1 => Setting::Alinea(ALINEA),
         _ => Setting::Fixed(2_000),
     }
 }

@@ -15,8 +15,10 @@
 //! - start: Start on a file, over a study with empty slots. The lists are
 //!   numbers of 32 bits for the engine and of 64 for the oracle.
 //! - step: Step. Slow origin: segment 1 shows 40 km/h, so that its origin is
-//!   bounded by speed in every step. Junctions: each first of four segments
-//!   parts into the next two, which meet in the fourth.
+//!   bounded by speed in every step. Metered: every ramp has ALINEA with z 1,
+//!   so that its rate moves in every step; elsewhere a third of them has it,
+//!   with z 6. Junctions: each first of four segments parts into the next two,
+//!   which meet in the fourth.
 //! - report, segment report: of the live case, or of slot 6 where slots are
 //!   filled; the segment is the last.
 //! - hold recall drop: three calls, each judged, on slot 6. Where slots are

@@ -9,7 +9,7 @@ mod engine_side;
 mod lent;
 mod oracle_side;
 
-use crate::busy::{self, JUNCTIONS, ROADS};
+use crate::busy::{self, JUNCTIONS, RAMPS, ROADS};
 use crate::table::{Row, Side};
 use lent::{Lent, Work};
 use oracle::book::SLOTS;
@@ -47,6 +47,7 @@ pub fn rows() -> Vec<Row> {
         }
     }
     rows.extend(ROADS.map(slow_origin));
+    rows.extend(RAMPS.map(metered));
     rows.extend(JUNCTIONS.map(junctions));
     rows
 }
@@ -64,6 +65,14 @@ fn slow_origin((n, curves): (usize, usize)) -> Row {
     let works = [engine_side::step, oracle_side::step];
     let lent = works.map(|work| Lent::new(&network, 0, work).with_slow_origin());
     sides("step, slow origin", lent, 100)
+}
+
+/// Step, with every ramp metered.
+fn metered((n, curves): (usize, usize)) -> Row {
+    let network = busy::road(n, curves);
+    let works = [engine_side::step, oracle_side::step];
+    let lent = works.map(|work| Lent::new(&network, 0, work).with_meters());
+    sides("step, metered", lent, 100)
 }
 
 /// The engine's Step, with empty slots.

@@ -6,7 +6,7 @@ use crate::calls::{ask_engine, Call, Start};
 use crate::cases::MOST_STEPS;
 use crate::compare::Difference;
 use crate::random::Random;
-use crate::reached::{self, junctions, mainstream};
+use crate::reached;
 use crate::stored_case::{total_word, STEPS};
 use crate::study::{case_word, put_case_at, put_study, speeds_for, words_for, RUNS};
 use oracle::book::SLOTS;
@@ -65,8 +65,7 @@ impl Line {
                 self.case.segments[place].set_meter(&self.network.segments[place], setting);
             }
             Call::Step(ref arrivals) => {
-                mainstream::note(&self.network, &self.case, arrivals);
-                junctions::note(&self.network, &self.case, arrivals);
+                reached::note_step(&self.network, &self.case, arrivals);
                 step::step(&self.network, &mut self.case, arrivals);
                 self.expected.words[RUNS] += 1;
             }

@@ -1,9 +1,9 @@
 -- Each part is read from the network's words or from the state's, and the new state is made of them.
 use Prim.Native.Nat.{_≤_}
-use mathlib.Core.Path.{sym, ap, subst}
+use mathlib.Core.Path.{refl, sym, ap, subst}
 use native.Mathlib.Omega.{arith}
 use native.Mathlib.Nat.{le-trans, le-of-eq}
-use lib.ListN.{length}
+use lib.ListN.{length, drop, length-drop}
 use lib.Seq.{length-take-le}
 use borrow.Author.Needs.{needs}
 use Rattle.laws.proofs.Lists.{rest-is}
@@ -11,7 +11,7 @@ use Rattle.format.specs.declared.Head.{Head}
 use Rattle.format.specs.Words.{entryIn, segmentIn}
 use Rattle.format.proofs.Accepted.{HeadWithin, CurveWithin}
 use Rattle.metanet.specs.declared.Neighbours.{Neighbours}
-use Rattle.metanet.specs.Words.{netOf}
+use Rattle.metanet.specs.Words.{netOf, stateIn}
 use Rattle.metanet.proofs.Ready.{SegmentOk, neighboursIn, newStateIn}
 use Rattle.metanet.proofs.SegmentLaws.{SegmentIn, segment-ok}
 use Rattle.segment.proofs.state.new_state_in.Statement.{statement}
@@ -48,6 +48,9 @@ own-within s =
 net-long : (s : tie.Start) → 2560 ≤ length (netOf (s .args .words .now))
 net-long s = le-of-eq (sym (length-take-le 2560 (s .args .words .now) (s .pre .0 .long)))
 
+rest-long : (s : tie.Start) → 16 ≤ length (drop (s .args .a) (s .args .words .now))
+rest-long s = rw length-drop (omega (arith, s .pre .0 .room))
+
 segment-in-requires : tie.Need-segment-in-requires
 segment-in-requires c κs = let s = c .before .before .before in (net-long s, omega (arith, s .pre .0 .more, s .pre .0 .net .head .size-high))
 
@@ -72,12 +75,13 @@ passed-on c =
     le-trans (le-of-eq (ap (λ (o : Neighbours). o .passed) (c .neighbours .ensures))) (start (segment (c .before)) .pre .0 .passed)
 
 new-state-requires : tie.Need-new-state-requires
+unfolding stateIn
 new-state-requires c κs =
     let row = c .before .before .before in
     let s = start (segment row) in
     let q = s .pre .0 in
     simp (entry row .kept-entry .ensures, segment row .segment-in .ensures, row .state-of .ensures, rest-is)
-    (head-within s, (own-within s, (q .state, (q .arrival, passed-on (c .before .before)))))
+    (head-within s, (own-within s, (q .state, (q .arrival, passed-on (c .before .before), rest-long s, refl))))
 
 returns : tie.Need-returns
 unfolding newStateIn

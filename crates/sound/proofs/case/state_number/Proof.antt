@@ -15,7 +15,7 @@ use Rattle.metanet.specs.Step.{freeSpeed, onRamp}
 use Rattle.metanet.specs.Words.{netOf, statesIn}
 use Rattle.metanet.specs.Sound.{stateBad, stateNumber}
 use Rattle.metanet.proofs.SegmentLaws.{SegmentIn, segment-ok}
-use Rattle.metanet.proofs.SoundLaws.{state-read, meter-same}
+use Rattle.metanet.proofs.SoundLaws.{state-read}
 use Rattle.sound.proofs.case.state_number.Statement.{statement}
 use Rattle.sound.proofs.case.state_number.Tie as tie
 
@@ -35,32 +35,28 @@ net-long s = le-of-eq (sym (length-take-le 2560 (s .args .words .now) (omega (ar
 segment-in-requires : tie.Need-segment-in-requires
 segment-in-requires c κs = let s = c .before .before .before in (net-long s, omega (arith, s .pre .1, s .pre .0 .size, s .pre .0 .net .head .size-high))
 
-may-meter-requires : tie.Need-may-meter-requires
-may-meter-requires c κs =
-    let s = start (segment (c .before .before .before .before)) in
-    let p = s .pre .0 in
-    let net = netOf (s .args .words .now) in
-    (segments-kept net (net-long s) (p .net), omega (arith, p .size, s .pre .1))
-
 state-bad-requires : tie.Need-state-bad-requires
 state-bad-requires c κs =
-    let free = c .before .before .before .before .before in
-    simp (free .kept-entry .ensures, segment free .segment-in .ensures) (judged (start (segment free)) .fast)
+    let free = c .before .before .before in
+    let s = start (segment free) in
+    let p = s .pre .0 in
+    let net = netOf (s .args .words .now) in (
+      segments-kept net (net-long s) (p .net),
+      (omega (arith, p .size, s .pre .1), simp (free .kept-entry .ensures, segment free .segment-in .ensures) (judged s .fast)),
+    )
 
 -- the value of the test
 tested :
     (c : tie.After-state-bad) →
-    let a = start (segment (c .before .before .before .before .before .before)) .args in
+    let a = start (segment (c .before .before .before .before)) .args in
     let net = netOf (a .words .now) in
     stateBad (onRamp (headIn net) (entryIn net) (segmentIn net) (a .i)) (segmentIn net (a .i)) (freeSpeed (headIn net) (entryIn net) (segmentIn net) (a .i)) (stateOf (statesIn (a .words .now) (a .speeds .now) (a .at) (a .from) (a .n)) (a .i)) ≡ c .state-bad .result
 tested c =
-    let may = c .before in
-    let row = may .before .before in
+    let row = c .before in
     let free = row .before .before .before in
     let s = start (segment free) in
     sym
     (c .state-bad .ensures
-    ∙ meter-same _ _ _ _ _ (may .may-meter .ensures)
     ∙ simp (free .kept-entry .ensures, segment free .segment-in .ensures, row .state-of .ensures, rest-is, state-read (s .args .words .now) (s .args .speeds .now) (s .args .at) (s .args .from) (s .args .n) (s .args .i) (s .pre .1)))
 
 returns : tie.Need-returns
@@ -80,4 +76,4 @@ state-number-spec =
     (λ c. rw (c .before .segment-in .ensures) (omega (arith, judged (start (c .before)) .curve-high)))
     (λ c κs. search needs) (λ c. search needs) (λ c. search needs) (λ c. search needs) (λ c. search needs) (λ c. search needs)
     (λ c. search needs) (λ c. search needs) (λ c. search needs) (λ c. search needs) (λ c κs. search needs)
-    may-meter-requires state-bad-requires returns returns-2)
+    state-bad-requires returns returns-2)

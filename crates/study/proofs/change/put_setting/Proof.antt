@@ -17,4 +17,5 @@ put-setting-spec =
     tie.close
     (tie.spec
     (λ c κs. search needs) (λ c. search needs) (λ c. search needs) (λ c. search needs) (λ c. search needs)
-    (λ c. simp length-set (omega arith)) (λ c. simp length-set (omega arith)) (λ c. search needs) returns)
+    (λ c. simp length-set (omega arith)) (λ c. simp length-set (omega arith)) (λ c. simp length-set (omega arith))
+    (λ c. simp length-set (omega arith)) (λ c. search needs) returns)

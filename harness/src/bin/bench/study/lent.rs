@@ -4,7 +4,7 @@ use crate::busy::{self, LINE_STEPS};
 use crate::table::Side;
 use harness::calls::RUN_FIGURES;
 use harness::random::Random;
-use harness::stored_case::{state_word, total_word};
+use harness::stored_case::{put_case, state_word, total_word};
 use harness::stored_case::{ARRIVALS, COMPLIANCE, COUNT, EXITS, LIMIT, STEPS, TIME};
 use harness::study::{case_word, speeds_for, words_for, Study, RUNS};
 use harness::surveys::row_count;
@@ -67,6 +67,14 @@ impl Lent {
         let n = self.arguments.network.segments.len();
         let live = &mut self.words[case_word(n, 0)..];
         (live[state_word(0, LIMIT)], live[state_word(0, COMPLIANCE)]) = (40, 550);
+        self
+    }
+
+    /// The same with ALINEA at every ramp, which moves its rate in every step.
+    pub fn with_meters(mut self) -> Lent {
+        let network = &self.arguments.network;
+        let live = &mut self.words[case_word(network.segments.len(), 0)..];
+        put_case(&busy::metered(network), live, &mut self.speeds);
         self
     }
 

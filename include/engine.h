@@ -85,8 +85,9 @@ uint64_t study_sign(uint64_t *words, size_t words_len, const double *speeds, siz
 
 /* The setting of a segment's ramp in the live case: open; fixed at a rate in mv a step; ALINEA with target in
  * veh/km/lane, gain in mv a step for each veh/km/lane by which the mean density since the rate last moved misses the
- * target, least in mv a step, interval in steps. The rate begins at Q, and moves in a step whose number on the line,
- * from 0, interval divides; not in the first step after the setting. 19 where no segment goes on to this one, as at segment 1, or it has no origin. 12, 17, 19, 20. */
+ * target, least in mv a step, interval in steps. ALINEA's rate begins at Q. It moves in each step before which the
+ * number of steps on the line is a multiple of interval, but not in the first step after the setting. 19 where no
+ * segment goes on to this one, as at segment 1, or it has no origin. 12, 17, 19, 20. */
 uint64_t study_meter_open(uint64_t *words, size_t words_len, const double *speeds, size_t speeds_len, uint64_t segment);
 uint64_t study_meter_fixed(uint64_t *words, size_t words_len, const double *speeds, size_t speeds_len, uint64_t segment,
                            uint64_t rate);

@@ -1,7 +1,7 @@
 -- S and m of a ramp on a line: m is at most the number of steps since z last divided t, and since Meter was called; S is at most 10¹² for
 -- each of them. So both keep their bounds.
 use Prim.Native.Nat.{ℕ, zero, suc, _+_, _-_, _*_, _/_, _%_, _≤_, _<_}
-use mathlib.Core.Path.{_≡_, refl, sym, ap, _∙_}
+use mathlib.Core.Path.{_≡_, refl, ap, _∙_}
 use mathlib.Core.Bool.{Bool, true, false, cond, not, _&&_, _||_, true≢false}
 use mathlib.Core.List.{[], _∷_, _++_}
 use native.Mathlib.Nat.{pos-of-ne-zero, one-mul, mod-lt, mod-self, mod-eq-of-lt, suc-mod}
@@ -9,8 +9,8 @@ use native.Mathlib.Omega.{arith}
 use native.Mathlib.Numerals.{add-one}
 use lib.Dec.{leb, eqb}
 use lib.IntN.{pos, negℤ}
-use borrow.Author.Tests.{ltb-false, le-ltb, eqb-true, eqb-false, ne-eqb, not-true}
-use Rattle.laws.proofs.Tests.{or-left, or-right, and-right, anyOf-false, inside-low, inside-high}
+use borrow.Author.Tests.{le-ltb, eqb-true, eqb-false, ne-eqb, not-true}
+use Rattle.laws.proofs.Tests.{and-right, anyOf-false, inside-low, inside-high}
 use Rattle.format.specs.declared.Segment.{Segment}
 use Rattle.metanet.specs.declared.Ramp.{Ramp}
 use Rattle.metanet.specs.Case.{alineaKind}
@@ -18,7 +18,8 @@ use Rattle.metanet.specs.Flow.{rateChange, alineaRate}
 use Rattle.metanet.specs.Line.{Item, Line, signed, metered, stepped}
 use Rattle.metanet.specs.Speed.{area}
 use Rattle.metanet.specs.Step.{rateOf, moves, rateNow, addedUp, rampNow}
-use Rattle.metanet.specs.Sound.{mvMost, summedMost, sumMost, hasAlinea, openBad, fixedBad, alineaBad, settingBad, averageBad}
+use Rattle.metanet.specs.Sound.{mvMost, summedMost, sumMost, alineaBad, settingBad, averageBad}
+use Rattle.metanet.proofs.Settings.{by-alinea, no-sum, no-summed, none-averaged}
 
 -- with m 1 and S = N, q is what document 01 says: gain × (target × G − N) ÷ G
 pub one-step : (gain target g n : ℕ)
@@ -125,69 +126,37 @@ pub record Averaged (r : Ramp) (t k : ℕ) : Type 0 where
 pub averaged-none : (r : Ramp) (t k : ℕ) → r .sum ≡ 0 → r .summed ≡ 0 → Averaged r t k
 averaged-none r t k s m = record { divided = omega (arith, m); called = omega (arith, m); sum = omega (arith, s) }
 
--- what a setting that is not bad says, by whether it is ALINEA's
-record ByKind (q : ℕ) (r : Ramp) : Type 0 where
-  alinea : eqb (r .kind) alineaKind ≡ true → alineaBad q r ≡ false
-  other : eqb (r .kind) alineaKind ≡ false → hasAlinea r ≡ false
+-- z is 1..60
+module _ (q : ℕ) (r : Ramp) (z : alineaBad q r ≡ false) where
+  interval-low : 0 < r .interval
+  unfolding alineaBad
+  interval-low = inside-low 1 (r .interval) 60 (anyOf-false _ z 3)
+
+  interval-high : r .interval ≤ 60
+  unfolding alineaBad
+  interval-high = inside-high 1 (r .interval) 60 (anyOf-false _ z 3)
 
 module _ (m : Bool) (q : ℕ) (r : Ramp) (z : settingBad m q r ≡ false) where
-  by-kind : ByKind q r
-  unfolding settingBad openBad fixedBad
-  by-kind = pick (eqb (r .kind) 0) (eqb (r .kind) 1) (eqb (r .kind) 2) refl refl refl z
-    where
-      pick : (a b c : Bool) → eqb (r .kind) 0 ≡ a → eqb (r .kind) 1 ≡ b → eqb (r .kind) 2 ≡ c
-          → cond a (openBad q r) (cond b (not m || fixedBad q r) (cond c (not m || alineaBad q r) true)) ≡ false → ByKind q r
-      pick true b c o f l z =
-          record { alinea = λ e. absurd (omega (arith, eqb-true (r .kind) 0 o, eqb-true (r .kind) 2 e)); other = λ e. or-left (hasAlinea r) _ z }
-      pick false true c o f l z =
-          record {
-            alinea = λ e. absurd (omega (arith, eqb-true (r .kind) 1 f, eqb-true (r .kind) 2 e));
-            other = λ e. or-left (hasAlinea r) _ (or-right (not m) (fixedBad q r) z);
-          }
-      pick false false true o f l z =
-          record { alinea = λ e. or-right (not m) (alineaBad q r) z; other = λ e. absurd (true≢false (sym l ∙ e)) }
-      pick false false false o f l z = absurd (true≢false z)
-
-  -- z is 1..60
-  interval-low : eqb (r .kind) alineaKind ≡ true → 0 < r .interval
-  unfolding alineaBad
-  interval-low e = inside-low 1 (r .interval) 60 (anyOf-false _ (by-kind .alinea e) 3)
-
-  interval-high : eqb (r .kind) alineaKind ≡ true → r .interval ≤ 60
-  unfolding alineaBad
-  interval-high e = inside-high 1 (r .interval) 60 (anyOf-false _ (by-kind .alinea e) 3)
-
-  -- S and m of another setting are 0
-  no-sum : eqb (r .kind) alineaKind ≡ false → r .sum ≡ 0
-  unfolding hasAlinea
-  no-sum e = omega (arith, ltb-false 0 (r .sum) (anyOf-false _ (by-kind .other e) 4))
-
-  no-summed : eqb (r .kind) alineaKind ≡ false → r .summed ≡ 0
-  unfolding hasAlinea
-  no-summed e = omega (arith, ltb-false 0 (r .summed) (anyOf-false _ (by-kind .other e) 5))
-
   module _ {t k : ℕ} (a : Averaged r t k) where
-    summed-le : r .summed ≤ summedMost
-    summed-le = go (eqb (r .kind) alineaKind) refl
-      where
-        go : (b : Bool) → eqb (r .kind) alineaKind ≡ b → r .summed ≤ summedMost
-        go true e = omega (arith, a .divided, since-most (r .interval) t (interval-low e), interval-high e)
-        go false e = omega (arith, no-summed e)
-
     -- so they are within their bounds
     pub average-within : averageBad (r .sum) (r .summed) ≡ false
     unfolding averageBad
-    average-within = λ j. le-ltb sumMost (r .sum) (omega (arith, a .sum, summed-le)) j || le-ltb summedMost (r .summed) summed-le j
+    average-within = by-alinea m q r z few (λ other none. none-averaged r none)
+      where
+        few : eqb (r .kind) alineaKind ≡ true → alineaBad q r ≡ false → averageBad (r .sum) (r .summed) ≡ false
+        few e f =
+            let steps : r .summed ≤ summedMost = omega (arith, a .divided, since-most (r .interval) t (interval-low q r f), interval-high q r f) in
+            λ j. le-ltb sumMost (r .sum) (omega (arith, a .sum, steps)) j || le-ltb summedMost (r .summed) steps j
 
     -- where the rate does not move, z does not divide t or m is 0
-    few-stay : eqb (r .kind) alineaKind ≡ true → moves r t ≡ false → r .summed ≤ t % r .interval
+    few-stay : alineaBad q r ≡ false → eqb (r .kind) alineaKind ≡ true → moves r t ≡ false → r .summed ≤ t % r .interval
     unfolding moves
-    few-stay e stay = go (eqb (t % r .interval) 0) (eqb (r .summed) 0) refl refl (rw e at stay)
+    few-stay f e stay = go (eqb (t % r .interval) 0) (eqb (r .summed) 0) refl refl (rw e at stay)
       where
         go : (d o : Bool) → eqb (t % r .interval) 0 ≡ d → eqb (r .summed) 0 ≡ o → (d && not o) ≡ false → r .summed ≤ t % r .interval
         go true true d o y = omega (arith, eqb-true (r .summed) 0 o)
         go true false d o y = absurd (true≢false y)
-        go false o d q y = omega (arith, a .divided, since-more (r .interval) t (interval-low e) (eqb-false _ _ d))
+        go false o d q y = omega (arith, a .divided, since-more (r .interval) t (interval-low _ r f) (eqb-false _ _ d))
 
     -- and after a step with n mv they are again such
     module _ (s : Segment) (n : ℕ) (few : n ≤ mvMost) where
@@ -209,11 +178,12 @@ module _ (m : Bool) (q : ℕ) (r : Ramp) (z : settingBad m q r ≡ false) where
 
       pub averaged-step : Averaged new (t + 1) (k + 1)
       unfolding rampNow
-      averaged-step = go (eqb (r .kind) alineaKind) (moves r t) refl refl
+      averaged-step =
+          by-alinea m q r z (λ e f. go f e (moves r t) refl)
+          (λ e none. averaged-none new _ _ (added-other r t e (r .sum) n ∙ no-sum r none) (added-other r t e (r .summed) 1 ∙ no-summed r none))
         where
-          go : (b c : Bool) → eqb (r .kind) alineaKind ≡ b → moves r t ≡ c → Averaged new (t + 1) (k + 1)
-          go true true e c = made n 1 (added-moved r t e c _ n, added-moved r t e c _ 1) (omega arith) (omega arith) (omega (arith, few))
-          go true false e c =
+          go : alineaBad q r ≡ false → eqb (r .kind) alineaKind ≡ true → (c : Bool) → moves r t ≡ c → Averaged new (t + 1) (k + 1)
+          go f e true c = made n 1 (added-moved r t e c _ n, added-moved r t e c _ 1) (omega arith) (omega arith) (omega (arith, few))
+          go f e false c =
               made (r .sum + n) (r .summed + 1) (added-more r t e c _ n, added-more r t e c _ 1)
-              (omega (arith, few-stay e c)) (omega (arith, a .called)) (omega (arith, a .sum, few))
-          go false c e d = averaged-none new _ _ (added-other r t e (r .sum) n ∙ no-sum e) (added-other r t e (r .summed) 1 ∙ no-summed e)
+              (omega (arith, few-stay f e c)) (omega (arith, a .called)) (omega (arith, a .sum, few))

@@ -6,10 +6,10 @@ use mathlib.Core.List.{[], _∷_}
 use native.Mathlib.Omega.{arith}
 use lib.Dec.{T, ltb, eqb}
 use lib.Ieee.{Float, le}
-use borrow.Author.Tests.{ltb-false, eqb-true, eq-eqb, ne-eqb}
+use borrow.Author.Tests.{ltb-false, eq-eqb, ne-eqb}
 use Rattle.laws.specs.First.{anyOf, outside}
 use Rattle.laws.specs.Real.{real}
-use Rattle.laws.proofs.Tests.{or-left, or-right, anyOf-false, inside, inside-low, inside-high}
+use Rattle.laws.proofs.Tests.{or-left, anyOf-false, inside, inside-low, inside-high}
 use Rattle.format.specs.declared.Segment.{Segment}
 use Rattle.metanet.specs.Case.{openKind, alineaKind}
 use Rattle.metanet.specs.Flow.{alineaRate, moved, rateChange}
@@ -18,6 +18,7 @@ use Rattle.metanet.specs.Step.{rateOf, moves, rateNow, rampNow}
 use Rattle.metanet.specs.Sound.{hasAlinea, openBad, fixedBad, alineaBad, settingBad, speedBad}
 use Rattle.metanet.proofs.Average.{added-other}
 use Rattle.metanet.proofs.SegmentLaws.{Within}
+use Rattle.metanet.proofs.Settings.{is-open, is-fixed, is-alinea, by-kind}
 use Rattle.metanet.specs.declared.Ramp.{Ramp}
 
 -- ---- the rate that a step makes, by the kind of setting
@@ -83,16 +84,10 @@ module _ (s : Segment) (n : ℕ) (r : Ramp) (t : ℕ) where
       (λ j. anyOf (outside 1 (r .target) 199 ∷ outside 1 (r .gain) 60000 ∷ ltb q (r .least) ∷ outside 1 (r .interval) 60 ∷ rate j ∷ [])) ∙ z
 
   -- m says whether the segment may be metered
-  pick-kept : (m a b c : Bool) → eqb (r .kind) 0 ≡ a → eqb (r .kind) 1 ≡ b → eqb (r .kind) 2 ≡ c
-      → cond a (openBad q r) (cond b (not m || fixedBad q r) (cond c (not m || alineaBad q r) true)) ≡ false
-      → cond a (openBad q new) (cond b (not m || fixedBad q new) (cond c (not m || alineaBad q new) true)) ≡ false
-  pick-kept m true b c o f l z = open-kept (eqb-true (r .kind) 0 o) z
-  pick-kept m false true c o f l z =
-      λ j. (or-left (not m) (fixedBad q r) z) j || fixed-kept (eqb-true (r .kind) 1 f) (or-right (not m) (fixedBad q r) z) j
-  pick-kept m false false true o f l z =
-      λ j. (or-left (not m) (alineaBad q r) z) j || alinea-kept (eqb-true (r .kind) 2 l) (or-right (not m) (alineaBad q r) z) j
-  pick-kept m false false false o f l z = z
-
   pub setting-kept : (m : Bool) → settingBad m q r ≡ false → settingBad m q new ≡ false
-  unfolding settingBad rampNow
-  setting-kept m z = pick-kept m (eqb (r .kind) 0) (eqb (r .kind) 1) (eqb (r .kind) 2) refl refl refl z
+  unfolding rampNow
+  setting-kept m z =
+      by-kind m q r z
+      (λ e f. is-open m q new e ∙ open-kept e f)
+      (λ may e f. is-fixed m q new may e ∙ fixed-kept e f)
+      (λ may e f. is-alinea m q new may e ∙ alinea-kept e f)

@@ -20,6 +20,7 @@ pub mod ReadBack
 pub mod Ready
 pub mod SameNetwork
 pub mod SegmentLaws
+pub mod Settings
 pub mod SoundLaws
 pub mod SpeedBound
 pub mod Sending

@@ -1,7 +1,7 @@
 -- What the soundness of a case says.
 use Prim.Native.Nat.{ℕ, _+_, _*_, _≤_, _<_}
 use mathlib.Core.Path.{_≡_, refl, sym, ap, _∙_, subst}
-use mathlib.Core.Bool.{Bool, true, false, cond, not, _||_, true≢false}
+use mathlib.Core.Bool.{Bool, true, false, cond, not, _||_}
 use mathlib.Core.List.{List}
 use native.Mathlib.Omega.{arith}
 use native.Mathlib.Nat.{add-zero, le-of-eq}
@@ -9,7 +9,7 @@ use lib.Seq.{getD-drop}
 use lib.Dec.{T, ltb, eqb}
 use lib.ListN.{length, getD}
 use lib.Ieee.{Float, le}
-use borrow.Author.Tests.{ltb-false, le-ltb, eqb-true, not-false}
+use borrow.Author.Tests.{ltb-false, eqb-true, not-false}
 use Rattle.laws.specs.First.{outside, row, first, firstOf}
 use Rattle.laws.specs.Real.{real}
 use Rattle.laws.specs.Sums.{sumOf}
@@ -26,6 +26,7 @@ use Rattle.metanet.specs.Case.{noState, stateOf, alineaKind}
 use Rattle.metanet.specs.Step.{vehiclesIn, freeSpeed, onRamp}
 use Rattle.metanet.specs.Words.{netOf, stateIn, stateAt, statesIn, caseIn}
 use Rattle.metanet.proofs.InWords.{meanNumber, meanNumberIn}
+use Rattle.metanet.proofs.Settings.{by-kind}
 use Rattle.metanet.proofs.Ready.{SignOk, RampOk, StateOk, CaseAt, Ready, TotalsOk, vehiclesAt}
 use Rattle.metanet.specs.Sound.{sumMost, summedMost, signBad, hasAlinea, openBad, fixedBad, alineaBad, settingBad, averageBad, speedBad, stateBad, totalsBad, stateNumber, caseNumber, arrivalNumber, stepNumber}
 
@@ -65,13 +66,6 @@ sign-ok r z = pick (eqb (r .limit) 0) refl z
           limit = inside-high 20 (r .limit) 200 (or-left (outside 20 (r .limit) 200) _ z);
           compliance = ltb-false 1000 (r .compliance) (or-right (outside 20 (r .limit) 200) _ z);
         }
-
--- where no figure is that only ALINEA has, S and m are within their bounds
-pub none-averaged : (r : Ramp) → hasAlinea r ≡ false → averageBad (r .sum) (r .summed) ≡ false
-unfolding hasAlinea averageBad
-none-averaged r z =
-    let no = anyOf-false _ z in
-    λ j. le-ltb sumMost (r .sum) (omega (arith, ltb-false 0 (r .sum) (no 4))) j || le-ltb summedMost (r .summed) (omega (arith, ltb-false 0 (r .summed) (no 5))) j
 
 module _ (q : ℕ) (r : Ramp) (mean : averageBad (r .sum) (r .summed) ≡ false) where
   sum-le : r .sum ≤ sumMost
@@ -120,15 +114,8 @@ module _ (q : ℕ) (r : Ramp) (mean : averageBad (r .sum) (r .summed) ≡ false)
       }
 
   ramp-ok : (m : Bool) → settingBad m q r ≡ false → RampOk q r
-  unfolding settingBad
-  ramp-ok m z = pick (eqb (r .kind) 0) (eqb (r .kind) 1) (eqb (r .kind) 2) refl refl z
-    where
-      pick : (a b c : Bool) → eqb (r .kind) 0 ≡ a → eqb (r .kind) 1 ≡ b
-          → cond a (openBad q r) (cond b (not m || fixedBad q r) (cond c (not m || alineaBad q r) true)) ≡ false → RampOk q r
-      pick true b c o f z = open-ok (λ e. omega (arith, e, eqb-true (r .kind) 0 o)) z
-      pick false true c o f z = fixed-ok (λ e. omega (arith, e, eqb-true (r .kind) 1 f)) (or-right (not m) (fixedBad q r) z)
-      pick false false true o f z = alinea-ok (or-right (not m) (alineaBad q r) z)
-      pick false false false o f z = absurd (true≢false z)
+  ramp-ok m z =
+      by-kind m q r z (λ e f. open-ok (λ o. omega (arith, e, o)) f) (λ may e f. fixed-ok (λ o. omega (arith, e, o)) f) (λ may e f. alinea-ok f)
 
 pub state-ok : (s : Segment) (r : SegmentState) (m : Bool) (f : ℕ) → stateBad m s f r ≡ false → StateOk s f r
 unfolding stateBad speedBad

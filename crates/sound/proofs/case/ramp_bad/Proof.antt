@@ -1,16 +1,14 @@
 -- By the kind of setting: open; metered where there is no ramp; fixed; ALINEA; none of them.
-use Prim.Native.Nat.{ℕ}
 use mathlib.Core.Path.{_≡_, refl, sym, _∙_}
-use mathlib.Core.Bool.{Bool, true, false, cond, _||_}
-use lib.Dec.{eqb}
+use mathlib.Core.Bool.{Bool, true, false, _||_}
 use borrow.Author.Needs.{needs}
-use borrow.Author.Tests.{eq-eqb, ne-eqb, not-true, not-false}
+use borrow.Author.Tests.{not-true, not-false}
 use Rattle.laws.proofs.Tests.{or-left}
 use Rattle.format.specs.Words.{headIn, entryIn, segmentIn}
 use Rattle.metanet.specs.declared.Ramp.{Ramp}
 use Rattle.metanet.specs.Step.{onRamp}
-use Rattle.metanet.specs.Sound.{hasAlinea, openBad, fixedBad, alineaBad, settingBad, averageBad}
-use Rattle.metanet.proofs.SoundLaws.{none-averaged}
+use Rattle.metanet.specs.Sound.{hasAlinea, openBad, fixedBad, averageBad}
+use Rattle.metanet.proofs.Settings.{is-open, is-fixed, is-alinea, is-unknown, no-ramp, none-averaged}
 use Rattle.sound.proofs.case.ramp_bad.Statement.{statement}
 use Rattle.sound.proofs.case.ramp_bad.Tie as tie
 
@@ -18,33 +16,6 @@ use Rattle.sound.proofs.case.ramp_bad.Tie as tie
 no-more : (r : Ramp) (b : Bool) → (b ≡ false → hasAlinea r ≡ false) → b ≡ (b || averageBad (r .sum) (r .summed))
 no-more r true none = refl
 no-more r false none = sym (none-averaged r (none refl))
-
--- a setting by its kind, where a segment has no ramp and where it has one
-module _ (q : ℕ) (r : Ramp) where
-  is-open : (m : Bool) → r .kind ≡ 0 → settingBad m q r ≡ openBad q r
-  unfolding settingBad
-  is-open m e = simp (eq-eqb _ _ e)
-
-  no-ramp : (m : Bool) → m ≡ false → (r .kind ≡ 0 → ⊥) → settingBad m q r ≡ true
-  unfolding settingBad
-  no-ramp m e other = simp (e, ne-eqb _ _ other) (go (eqb (r .kind) 1) (eqb (r .kind) 2))
-    where
-      go : (a b : Bool) → cond a true (cond b true true) ≡ true
-      go true b = refl
-      go false true = refl
-      go false false = refl
-
-  is-fixed : (m : Bool) → m ≡ true → r .kind ≡ 1 → settingBad m q r ≡ fixedBad q r
-  unfolding settingBad
-  is-fixed m e k = simp (e, k)
-
-  is-alinea : (m : Bool) → m ≡ true → r .kind ≡ 2 → settingBad m q r ≡ alineaBad q r
-  unfolding settingBad
-  is-alinea m e k = simp (e, k)
-
-  is-none : (m : Bool) → (r .kind ≡ 0 → ⊥) → (r .kind ≡ 1 → ⊥) → (r .kind ≡ 2 → ⊥) → settingBad m q r ≡ true
-  unfolding settingBad
-  is-none m o f a = simp (ne-eqb _ _ o, ne-eqb _ _ f, ne-eqb _ _ a)
 
 abbrev start : tie.Else2 → tie.Start
 start c = c .before .before .before .before .before
@@ -56,33 +27,33 @@ returns : tie.Need-returns
 unfolding openBad
 returns c =
     let a = c .before .before .before .before .args in
-    rw (is-open (a .most) (a .r) _ (c .before .if1 .taken)) (c .open-bad .ensures ∙ no-more (a .r) _ (or-left (hasAlinea (a .r)) _))
+    rw (is-open _ (a .most) (a .r) (c .before .if1 .taken)) (c .open-bad .ensures ∙ no-more (a .r) _ (or-left (hasAlinea (a .r)) _))
 
 returns-2 : tie.Need-returns-2
 returns-2 c =
     let a = c .before .before .before .before .before .args in
-    rw (no-ramp (a .most) (a .r) _ (sym (c .before .is-on-ramp .ensures) ∙ not-true _ (c .if2 .taken)) (c .before .before .if1 .left)) refl
+    rw (no-ramp _ (a .most) (a .r) (sym (c .before .is-on-ramp .ensures) ∙ not-true _ (c .if2 .taken)) (c .before .before .if1 .left)) refl
 
 returns-3 : tie.Need-returns-3
 unfolding fixedBad
 returns-3 c =
     let d = c .before .before .before in
     let a = start d .args in
-    rw (is-fixed (a .most) (a .r) _ (there d) (c .before .if3 .taken)) (c .fixed-bad .ensures ∙ no-more (a .r) _ (or-left (hasAlinea (a .r)) _))
+    rw (is-fixed _ (a .most) (a .r) (there d) (c .before .if3 .taken)) (c .fixed-bad .ensures ∙ no-more (a .r) _ (or-left (hasAlinea (a .r)) _))
 
 returns-4 : tie.Need-returns-4
 returns-4 c =
     let third = c .before .before in
     let d = third .before .before .before .before in
     let a = start d .args in
-    rw (is-alinea (a .most) (a .r) _ (there d) (third .if4 .taken)) (simp (c .before .alinea-bad .ensures, c .average-bad .ensures))
+    rw (is-alinea _ (a .most) (a .r) (there d) (third .if4 .taken)) (simp (c .before .alinea-bad .ensures, c .average-bad .ensures))
 
 returns-5 : tie.Need-returns-5
 returns-5 c =
     let third = c .before .before in
     let d = third .before .before in
     let a = start d .args in
-    rw (is-none (a .most) (a .r) _ (d .before .before .if1 .left) (third .if3 .left) (c .if4 .left)) refl
+    rw (is-unknown _ (a .most) (a .r) (d .before .before .if1 .left) (third .if3 .left) (c .if4 .left)) refl
 
 pub ramp-bad-spec : {M : Type 1} → statement M
 ramp-bad-spec =

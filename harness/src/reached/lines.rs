@@ -34,6 +34,7 @@ pub fn count<M>(lines: &[Line<M>], counts: &[Counts], met: &M) {
 pub fn say<M>(lines: &[Line<M>], counts: &[Counts]) -> bool {
     let mut complete = true;
     for ((name, _, ways), counts) in lines.iter().zip(counts) {
+        assert!(ways.len() <= counts.len(), "{name}: more ways than counts");
         let ways = ways.iter().zip(counts);
         complete &= say_line(name, ways.map(|(way, count)| (way.0, count)));
     }

@@ -19,6 +19,8 @@ const MAIN_LOW: f64 = 1000.0;
 const RAMP_LOW: f64 = 500.0;
 /// What the signs show, in km/h.
 const LIMIT: u64 = 50;
+/// The ramp's longest queue in vehicles, which control is to keep.
+const LONGEST: u64 = 100;
 
 /// Both readings of "near capacity".
 pub fn rows() {
@@ -30,6 +32,7 @@ fn cases(peak: f64) {
     let set_up = set_up(peak);
     let open = set_up.run(|_, _, _| {});
     uncontrolled(&format!("no control, ramp peak {peak:.0}"), &open);
+    turning_point(peak, &set_up.run(control(Rule::First, 0)));
     for (rule, name) in [(Rule::First, "first rule"), (Rule::Second, "second rule")] {
         let metered = set_up.run(control(rule, 0));
         let case = format!("ramp metering, {name}, ramp peak {peak:.0}");
@@ -38,6 +41,15 @@ fn cases(peak: f64) {
         let case = format!("ramp metering and signs, {name}, ramp peak {peak:.0}");
         controlled(&case, "1251.0 (14.3 %)", &open, &signed);
     }
+}
+
+/// Whether the first rule then lets the whole demand in goes by this density.
+fn turning_point(peak: f64, metered: &Outcome) {
+    let case = format!("ramp metering, either rule, ramp peak {peak:.0}");
+    let figure = "density of the ramp's segment when O2's queue comes to 100, veh/km/lane";
+    let density = metered.density_at_queue(RAMP as usize, LONGEST);
+    let ours = density.map_or("never".into(), |density| format!("{density:.1}"));
+    row("000", &case, figure, "not given", &ours);
 }
 
 fn controlled(case: &str, published: &str, open: &Outcome, outcome: &Outcome) {
@@ -73,7 +85,7 @@ fn uncontrolled(case: &str, open: &Outcome) {
     }
 }
 
-/// ALINEA with a queue of at most 100 vehicles; while the queue is full the
+/// ALINEA with a queue of at most that length; while the queue is full the
 /// signs show the limit, 0 for dark, with 10 % added by drivers.
 fn control(rule: Rule, limit: u64) -> impl FnMut(&mut Live, &[u32], u64) {
     let alinea = Alinea {
@@ -82,7 +94,7 @@ fn control(rule: Rule, limit: u64) -> impl FnMut(&mut Live, &[u32], u64) {
         least: 0,
         interval: 6,
     };
-    let mut ramp = Ramp::new(RAMP, alinea, 100_000, rule);
+    let mut ramp = Ramp::new(RAMP, alinea, 1000 * LONGEST, rule);
     move |live, arrivals, _| {
         ramp.act(live, arrivals);
         let shown = if ramp.full() { limit } else { 0 };

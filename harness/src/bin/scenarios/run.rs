@@ -99,6 +99,13 @@ impl Outcome {
         queues.max().unwrap_or(0) as f64 / 1000.0
     }
 
+    /// The density when the queue first has so many vehicles, in veh/km/lane.
+    pub fn density_at_queue(&self, segment: usize, vehicles: u64) -> Option<f64> {
+        let long = |seen: &&Vec<Seen>| seen[segment - 1].queue >= 1000 * vehicles;
+        let seen = self.seen.iter().find(long)?;
+        Some(self.dense(segment, seen))
+    }
+
     /// When speed is the least bound of the main origin, in minutes: some wait
     /// there still, and fewer than R were released.
     pub fn bounded_by_speed(&self) -> String {

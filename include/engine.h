@@ -3,8 +3,8 @@
  * Every function answers a number: 0 where the call is accepted, else the number of the first refusal that applies;
  * docs/REFUSALS.md says each in words. A refused call leaves every lent array exactly as it came.
  * 24 comes after all other refusals: the room lent for an answer is too short. These have it: network_curve,
- * network_place, survey_read, survey_write, study_run, study_report, study_report_segment, study_run_count and
- * study_write. In study_write and for the lent list or bytes of survey_read and survey_write it is a refusal of the
+ * network_place, survey_read, survey_write, study_run, study_report, study_report_segment, study_drain, study_run_count
+ * and study_write. In study_write and for the lent list or bytes of survey_read and survey_write it is a refusal of the
  * papers, in the others it is this interface's own.
  * network_place answers 0 of a refused file too, and puts the file's number into place[0].
  *
@@ -113,12 +113,21 @@ uint64_t study_drop(uint64_t *words, size_t words_len, const double *speeds, siz
 
 /* Reports write their figures from figures[0] on; later words stay. Of a case, 6 figures: steps, mv in segments, mv in
  * queues, arrivals, exits, time in mv*s. 12, 21, 23, 24. Of a segment of a case, 7: N, whole part of v, bits of v,
- * queue, last outflow, last release, R. 12, 21, 23, 17, 24. The run count, 1 figure: steps accepted since the start.
- * 12, 24. */
+ * queue, last outflow, last release, R. 12, 21, 23, 17, 24. */
 uint64_t study_report(const uint64_t *words, size_t words_len, const double *speeds, size_t speeds_len,
                       uint64_t study_case, uint64_t *figures, size_t figures_len);
 uint64_t study_report_segment(const uint64_t *words, size_t words_len, const double *speeds, size_t speeds_len,
                               uint64_t study_case, uint64_t segment, uint64_t *figures, size_t figures_len);
+
+/* How long the queue at a segment of a case takes to drain if nothing more arrives and each step releases R, as in the
+ * segment's report, or all that is left. figures[0] becomes 1 where it never drains, which is where R is 0 and there is
+ * a queue, else 0; figures[1] becomes a number of steps after which the queue is empty, 0 where there is none or where it
+ * never drains; later words stay. The number is at most the whole part of queue / R, plus 1: rest on no more, since
+ * another version of this engine may give another number within that. 12, 21, 23, 17, 19 as in study_meter_open, 24. */
+uint64_t study_drain(const uint64_t *words, size_t words_len, const double *speeds, size_t speeds_len,
+                     uint64_t study_case, uint64_t segment, uint64_t *figures, size_t figures_len);
+
+/* The run count, 1 figure: steps accepted since the start. 12, 24. */
 uint64_t study_run_count(const uint64_t *words, size_t words_len, const double *speeds, size_t speeds_len,
                          uint64_t *figures, size_t figures_len);
 

@@ -62,7 +62,7 @@ pub struct Start {
 }
 
 /// The number that a call answers, and its buffers afterwards.
-#[derive(Debug, PartialEq, Eq)]
+#[derive(Clone, Debug, PartialEq, Eq)]
 pub struct Answer {
     pub number: u64,
     pub figures: Box<[u64]>,
@@ -83,8 +83,22 @@ impl Call {
 const FILL: u64 = 0x5afe_9a2d_5afe_9a2d;
 /// Figures of a run: rows taken, and the number that stopped it or 0.
 pub const RUN_FIGURES: usize = 2;
+/// Figures of the report of a case, and of a segment.
+pub const CASE_FIGURES: usize = 6;
+pub const SEGMENT_FIGURES: usize = 7;
+/// Whether a queue never drains, and its steps.
+const DRAIN_FIGURES: usize = 2;
 /// A buffer too short.
 const BUFFER: u64 = 24;
+
+/// How many figures answer it.
+pub fn figures_of(question: &Question) -> usize {
+    match question {
+        Question::Case => CASE_FIGURES,
+        Question::Segment(_) => SEGMENT_FIGURES,
+        Question::Drain(_) => DRAIN_FIGURES,
+    }
+}
 
 impl Answer {
     /// The call's buffers as they are lent, each exactly as long as its room.
@@ -120,6 +134,13 @@ impl Answer {
             Some(room) => room.copy_from_slice(figures),
             None => self.number = BUFFER,
         }
+    }
+
+    /// The same with these figures.
+    pub(crate) fn given(&self, figures: &[u64]) -> Answer {
+        let mut answer = self.clone();
+        answer.give(figures);
+        answer
     }
 
     /// A file likewise.

@@ -39,6 +39,8 @@ functions! {
     study_report(study, study_case: u64, figures: [mut u64]) refused by [12, 21, 23, 24];
     study_report_segment(study, study_case: u64, segment: u64, figures: [mut u64])
         refused by [12, 21, 23, 17, 24];
+    study_drain(study, study_case: u64, segment: u64, figures: [mut u64])
+        refused by [12, 21, 23, 17, 19, 24];
     study_run_count(study, figures: [mut u64]) refused by [12, 24];
     study_write(study, out: [mut u8]) refused by [12, 24];
 }

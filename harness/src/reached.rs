@@ -1,14 +1,15 @@
 //! Which numbers the C functions answered in this run, how runs ended, where
-//! files were refused, and what steps met at a mainstream origin, at ALINEA
-//! ramps, and where freeways part and meet.
+//! files were refused, what steps met at a mainstream origin, at ALINEA ramps,
+//! and where freeways part and meet, and what calls about a ramp met.
 
 mod alinea;
-pub mod junctions;
+mod junctions;
 mod lines;
 mod mainstream;
 pub mod places;
+mod ramps;
 
-use crate::calls::Answer;
+use crate::calls::{Answer, Call};
 use crate::engine::Function;
 use oracle::case::Case;
 use oracle::file::Network;
@@ -43,10 +44,11 @@ pub fn note(function: Function, number: u64) {
     COUNTS[function as usize][number as usize].fetch_add(1, Ordering::Relaxed);
 }
 
-/// Counts the number of such an answer and, where it is that of an accepted
-/// run, how the run ended.
-pub fn note_answer(function: Function, answer: &Answer) {
+/// Counts the number of such an answer of a call on the study in these words;
+/// of an accepted run how it ended, and what a call about a ramp met.
+pub fn note_answer(function: Function, call: &Call, words: &[u64], answer: &Answer) {
     note(function, answer.number);
+    ramps::note(words, call, answer.number);
     let (Function::study_run, 0, &[taken, stopped, ..]) =
         (function, answer.number, &*answer.figures)
     else {
@@ -85,6 +87,7 @@ pub fn say() -> bool {
     complete &= places::say();
     complete &= mainstream::say();
     complete &= alinea::say();
+    complete &= ramps::say();
     junctions::say() && complete
 }
 

@@ -6,6 +6,7 @@
 
 pub mod book;
 pub mod case;
+pub mod drain;
 pub mod file;
 pub mod network;
 mod ranges;

@@ -35,7 +35,7 @@ pub const NO_MORE_STEPS: u8 = 16;
 pub const NO_SEGMENT: u8 = 17;
 /// Limit neither 0 nor 20..200, or compliance outside −500..500.
 pub const SIGN: u8 = 18;
-/// Meter where no segment is before or without an origin.
+/// Meter or drain where no segment is before or without an origin.
 pub const NO_RAMP: u8 = 19;
 /// A meter's setting out of range.
 pub const SETTING: u8 = 20;

@@ -198,6 +198,10 @@ static void refusals(Study study)
     expect("report, slot 7", study_report(words, WORDS, speeds, SPEEDS, 7, figures, 7), 21);
     expect("report, empty slot", study_report(words, WORDS, speeds, SPEEDS, 1, figures, 7), 23);
     expect("report, room", study_report(words, WORDS, speeds, SPEEDS, 0, figures, 5), 24);
+    expect("drain, slot 7", study_drain(words, WORDS, speeds, SPEEDS, 7, 2, figures, 2), 21);
+    expect("drain, empty slot", study_drain(words, WORDS, speeds, SPEEDS, 1, 2, figures, 2), 23);
+    expect("drain, segment", study_drain(words, WORDS, speeds, SPEEDS, 0, 2, figures, 2), 17);
+    expect("drain at segment 1", study_drain(words, WORDS, speeds, SPEEDS, 0, 1, figures, 1), 19);
     expect("words stay", (uint64_t)memcmp(words, words_before, WORDS * sizeof *words), 0);
     expect("speeds stay", (uint64_t)memcmp(speeds, speeds_before, SPEEDS * sizeof *speeds), 0);
     free(words_before);
@@ -341,6 +345,33 @@ static void junction_places(uint8_t *file)
     build_junction(file);
 }
 
+/* The queue at segment 3 never drains, or has gone after a number of steps from the least up to the most permitted. */
+static void expect_drain(uint64_t *words, double *speeds, uint64_t never, uint64_t least, uint64_t most)
+{
+    uint64_t figures[3] = {7, 7, 7};
+    uint64_t refused = study_drain(words, JUNCTION_WORDS, speeds, JUNCTION_SPEEDS, 0, 3, figures, 1);
+    expect("drain, room", refused, 24);
+    expect("figures stay", figures[0], 7);
+    expect("drain", study_drain(words, JUNCTION_WORDS, speeds, JUNCTION_SPEEDS, 0, 3, figures, 3), 0);
+    expect("never drains", figures[0], never);
+    expect("steps to drain", least <= figures[1] && figures[1] <= most, 1);
+    expect("word after the drain", figures[2], 7);
+}
+
+/* 1,000 mv wait: the ramp is open with Q 2,000, then fixed at 300, 250 and 0, then open again. */
+static void junction_drains(uint64_t *words, double *speeds)
+{
+    const size_t w = JUNCTION_WORDS, v = JUNCTION_SPEEDS;
+    expect_drain(words, speeds, 0, 1, 1);
+    expect("fixed at 300", study_meter_fixed(words, w, speeds, v, 3, 300), 0);
+    expect_drain(words, speeds, 0, 4, 4);
+    expect("fixed at 250", study_meter_fixed(words, w, speeds, v, 3, 250), 0);
+    expect_drain(words, speeds, 0, 4, 5);
+    expect("fixed at 0", study_meter_fixed(words, w, speeds, v, 3, 0), 0);
+    expect_drain(words, speeds, 1, 0, 0);
+    expect("open again", study_meter_open(words, w, speeds, v, 3), 0);
+}
+
 /* One step on the junction, worked out by hand: what enters 3 is what leaves 1 and 2, what leaves 3 parts. */
 static void junction_step(uint64_t *words, double *speeds)
 {
@@ -373,6 +404,7 @@ static void junction(void)
     junction_places(file);
     expect("junction, start", study_start(words, w, speeds, v, file, JUNCTION_BYTES, mvs, 5, initial, 5, queues, 5), 0);
     expect("version", words[7], 2);
+    junction_drains(words, speeds);
     junction_step(words, speeds);
     expect("meter with none before", study_meter_open(words, w, speeds, v, 2), 19);
     expect("meter where two enter", study_meter_fixed(words, w, speeds, v, 3, 500), 0);

@@ -9,7 +9,7 @@ use Rattle.survey_file.specs.Written.{surveyOf}
 use Rattle.metanet.specs.Marked.{tallies}
 use Rattle.metanet.specs.Line.{signed, metered, stepped}
 use Rattle.metanet.specs.declared.Setting.the-variants.{Open}
-use Rattle.book.specs.Question.{totals, segment, ofCase, runCount, Answer, refused, accepted, figures}
+use Rattle.book.specs.Question.{totals, segment, drain, ofCase, runCount, Answer, refused, accepted, figures}
 use Rattle.book.specs.Calls.{Call, start, item, hold, recall, dropSlot, question}
 use Rattle.book.specs.Perform.{Arrays, answers}
 use Rattle.book.specs.Run.{CallOrRun, single, run, performAny}
@@ -35,6 +35,7 @@ answered =
     ∷ (single (item (stepped (0 ∷ []))), accepted)
     ∷ (single (question (ofCase 0 totals)), figures (2 ∷ 10556 ∷ 0 ∷ 4000 ∷ 18444 ∷ 440000 ∷ []))
     ∷ (single (question (ofCase 0 (segment 1))), figures (10556 ∷ 97500 ∷ 4681436562192334848 ∷ 0 ∷ 8444 ∷ 3000 ∷ 6000 ∷ []))
+    ∷ (single (question (ofCase 0 (drain 1))), refused 19)
     ∷ (single (question (ofCase 1 totals)), figures (0 ∷ 20000 ∷ 5000 ∷ 0 ∷ 0 ∷ 0 ∷ []))
     ∷ (single (recall 2), refused 23)
     ∷ (single (recall 1), accepted)

@@ -5,14 +5,13 @@ use lib.Dec.{ltb, leb, eqb}
 use Rattle.laws.specs.First.{outside, row, first}
 use Rattle.format.specs.Network.{Network, entryOf, segmentOf}
 use Rattle.format.specs.File.{fileNumber, networkOf}
-use Rattle.metanet.specs.Step.{rampAt}
 use Rattle.metanet.specs.Sound.{stepNumber}
 use Rattle.metanet.specs.Start.{startNumber}
 use Rattle.metanet.specs.Change.{signRefused, settingRefused}
 use Rattle.metanet.specs.Line.{Item, signed, metered, stepped}
 use Rattle.book.specs.Arrangement.{slots, wordsFor, speedsFor}
 use Rattle.book.specs.Sound.{runsMost}
-use Rattle.book.specs.Question.{Question, ofCase, runCount, segmentMissing, questionNumber}
+use Rattle.book.specs.Question.{Question, ofCase, runCount, segmentMissing, rampMissing, questionNumber}
 use Rattle.book.specs.Calls.{Call, start, item, hold, recall, dropSlot, question}
 
 -- what a call is judged on beside its arguments: the two lengths, the network, the steps of the live line, the run count, which slots
@@ -28,11 +27,11 @@ pub record Grounds : Type 0 where
 unfoldable pub itemNumber : Item → Grounds → ℕ
 -- 17; 18
 itemNumber (signed i limit compliance) g = row (segmentMissing (g .network) i) 17 (row (signRefused limit compliance) 18 0)
--- 17; 19 no segment before it, or no origin; 20
+-- 17; 19; 20
 itemNumber (metered i setting) g =
     let w = g .network in
     row (segmentMissing w i) 17
-    (row (not (rampAt w (i - 1))) 19
+    (row (rampMissing w i) 19
     (row (settingRefused (segmentOf w (i - 1) .most) setting) 20 0))
 -- 13 list length; 15; 16 20,000 steps on the line or run count 1,000,000
 itemNumber (stepped arrivals) g =

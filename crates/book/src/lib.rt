@@ -36,6 +36,13 @@ pub enum SegmentReport {
     Figures(SegmentFigures),
 }
 
+// How long a queue takes to drain: never, or in so many steps.
+pub enum DrainReport {
+    Refused(u64),
+    Never,
+    Steps(u64),
+}
+
 pub enum RunReport {
     Refused(u64),
     Count(u64),

@@ -11,7 +11,7 @@ ghost use Rattle.survey_file.specs.Written.{writeNumber, writtenSurvey};
 ghost use Rattle.metanet.specs.declared.Setting.the-variants.{Open, Fixed, Alinea};
 ghost use Rattle.metanet.specs.Line.{signed, metered, stepped};
 ghost use Rattle.book.specs.Sound.{sound};
-ghost use Rattle.book.specs.Question.{totals, segment, ofCase, runCount, numberOf};
+ghost use Rattle.book.specs.Question.{totals, segment, drain, ofCase, runCount, numberOf};
 ghost use Rattle.book.specs.Calls.{start, item, hold, recall, dropSlot, question, verdictSays};
 ghost use Rattle.book.specs.Write.{writeRefusal, writtenBytes};
 ghost use Rattle.engine.specs.Study.{toldNumber, toldWords, curvePlace, filePlace, Called, CalledRead, CalledRun};
@@ -241,6 +241,20 @@ pub extern "C" fn study_report_segment(
     ensures { λ r. ⌜ Called (question (ofCase k (segment i))) (now (words .entry)) (now (speeds .entry)) (now (figures .entry)) r (now (words .entry)) (now (speeds .entry)) (now (figures .exit)) ⌝ }
 {
     report::put_segment(reports::report_segment(words, speeds, k, i), figures)
+}
+
+// How long the queue at segment i of case k takes to drain: 1 where it never does, else 0, and the steps, into figures[0] and [1].
+#[no_mangle]
+pub extern "C" fn study_drain(
+    words: &[u64],
+    speeds: &[f64],
+    k: u64,
+    i: u64,
+    figures: &mut [u64],
+) -> u64
+    ensures { λ r. ⌜ Called (question (ofCase k (drain i))) (now (words .entry)) (now (speeds .entry)) (now (figures .entry)) r (now (words .entry)) (now (speeds .entry)) (now (figures .exit)) ⌝ }
+{
+    report::put_drain(reports::drain(words, speeds, k, i), figures)
 }
 
 // The run count.

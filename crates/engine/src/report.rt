@@ -1,7 +1,7 @@
 // Figures put into lent words.
 ghost use mathlib.Core.Path.{_≡_};
 ghost use Rattle.laws.specs.First.{first};
-ghost use Rattle.book.specs.Question.{figures, caseSays, segmentSays, runSays};
+ghost use Rattle.book.specs.Question.{figures, caseSays, segmentSays, drainSays, runSays};
 ghost use Rattle.book.specs.Run.{ranSays};
 ghost use Rattle.engine.specs.Study.{toldNumber, toldWords, surveySays};
 
@@ -57,6 +57,23 @@ pub(crate) fn put_segment(report: book::SegmentReport, out: &mut [u64]) -> u64
                 f.rate,
             ];
             put_figures(&seven, out)
+        }
+    }
+}
+
+pub(crate) fn put_drain(report: book::DrainReport, out: &mut [u64]) -> u64
+    ensures { λ r. ⌜ r ≡ toldNumber (drainSays report) (now (out .entry)) ⌝ }
+    ensures { λ _. ⌜ now (out .exit) ≡ toldWords (drainSays report) (now (out .entry)) ⌝ }
+{
+    match report {
+        book::DrainReport::Refused(number) => number,
+        book::DrainReport::Never => {
+            let two = [1, 0];
+            put_figures(&two, out)
+        }
+        book::DrainReport::Steps(steps) => {
+            let two = [0, steps];
+            put_figures(&two, out)
         }
     }
 }

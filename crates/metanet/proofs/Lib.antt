@@ -4,6 +4,7 @@ pub mod CaseLaws
 pub mod CaseParts
 pub mod CaseSound
 pub mod Chain
+pub mod Drain
 pub mod Put
 pub mod Entries
 pub mod FlowLaws

@@ -7,6 +7,7 @@ pub mod Start
 pub mod Change
 pub mod Line
 pub mod Report
+pub mod Drain
 pub mod Words
 pub mod Sound
 pub mod Marked

@@ -15,9 +15,13 @@ caseFigures w c =
     ∷ sumOf (λ i. stateOf (c .states) i .queue) (w .head .size)
     ∷ c .arrivals ∷ c .exits ∷ c .time ∷ []
 
+-- R of segment i, counted from 0
+abbrev pub reportedRate : Network → Case → ℕ → ℕ
+reportedRate w c i = rateOf (segmentOf w i .most) (stateOf (c .states) i .ramp)
+
 -- of segment i, counted from 0: N, s, bits of v, w, last outflow, last release, R
 unfoldable pub segmentFigures : Network → Case → ℕ → List ℕ
 segmentFigures w c i =
     let r = stateOf (c .states) i in
     r .count ∷ toUnsigned 64 (r .speed) ∷ toBits binary64 (r .speed) ∷ r .queue
-    ∷ r .flows .outflow ∷ r .flows .release ∷ rateOf (segmentOf w i .most) (r .ramp) ∷ []
+    ∷ r .flows .outflow ∷ r .flows .release ∷ reportedRate w c i ∷ []

@@ -9,7 +9,7 @@ use lib.ListN.{length, getD}
 use lib.Ieee.{Float}
 use borrow.Author.Tests.{lt-ltb, le-ltb, le-leb, eq-eqb, ne-eqb, ltb-false, not-false}
 use Rattle.laws.specs.First.{outside, row, first}
-use Rattle.laws.proofs.First.{row-applies, row-skipped, row-passed, row-later, first-some, first-zero, first-zero-left, first-zero-right}
+use Rattle.laws.proofs.First.{row-applies, row-skipped, row-passed, row-later, row-first, first-some, first-zero, first-zero-left, first-zero-right, first-first}
 use Rattle.laws.proofs.Tests.{inside-low, inside-high}
 use Rattle.format.specs.declared.Head.{Head}
 use Rattle.metanet.specs.Words.{netOf}
@@ -23,7 +23,7 @@ use Rattle.book.proofs.Sounds.{laid, case-sound}
 use Rattle.book.proofs.Performing.{judged, accepted-sound}
 use Rattle.book.proofs.Network.{head-kept, size-word}
 use Rattle.book.specs.Calls.{question}
-use Rattle.book.specs.Question.{questionNumber, CaseQuestion, ofCase, segment, totals}
+use Rattle.book.specs.Question.{questionNumber, segmentMissing, rampMissing, CaseQuestion, ofCase, segment, drain, totals}
 
 -- 12, 21 and 23, then later rows
 rows-first : (s t u : Bool) (y : ℕ) → row s 12 (row t 21 (row u 23 y)) ≡ first (row s 12 (row t 21 (row u 23 0))) y
@@ -112,6 +112,12 @@ module _ (words : List ℕ) (speeds : List Float) where
         pub question-long : 2576 ≤ length words
         question-long = omega (arith, reportable .laid .room)
 
+    -- ---- a question whose own rows are those of another, and then later ones
+    rows-after : (q further : CaseQuestion) (later : ℕ) → questionNumber (networkAt words) further ≡ first (questionNumber (networkAt words) q) later
+        → asked further ≡ first (asked q) later
+    rows-after q further later e =
+        asked-is further ∙ ap (first whichCase) e ∙ sym (first-first whichCase _ later) ∙ ap (λ (m : ℕ). first m later) (sym (asked-is q))
+
     -- ---- the segment asked for
     module _ (i : ℕ) where
       abbrev missing : Bool
@@ -138,3 +144,24 @@ module _ (words : List ℕ) (speeds : List Float) where
 
         pub segment-high : i ≤ getD words 1 0
         segment-high = inside-high 1 i (getD words 1 0) inside
+
+      -- ---- the drain of its queue: the rows of the segment's report, then 19
+      abbrev noRamp : Bool
+      noRamp = rampMissing (networkAt words) i
+
+      drain-rows : asked (drain i) ≡ first (asked (segment i)) (row noRamp 19 0)
+      unfolding questionNumber
+      drain-rows = rows-after (segment i) (drain i) (row noRamp 19 0) (row-first (segmentMissing (networkAt words) i) 16 _)
+
+      pub drain-segment : {r : ℕ} → r ≡ asked (segment i) → (r ≡ 0 → ⊥) → r ≡ asked (drain i)
+      drain-segment e some = e ∙ sym (drain-rows ∙ first-some _ _ (λ z. some (e ∙ z)))
+
+      module _ (z : asked (segment i) ≡ 0) where
+        pub drain-none : noRamp ≡ true → 19 ≡ asked (drain i)
+        drain-none e = sym (drain-rows ∙ first-zero _ _ z ∙ row-applies _ _ _ e)
+
+        pub drain-there : noRamp ≡ false → 0 ≡ asked (drain i)
+        drain-there e = sym (drain-rows ∙ first-zero _ _ z ∙ row-skipped _ _ _ e)
+
+      pub drain-taken : asked (drain i) ≡ 0 → asked (segment i) ≡ 0
+      drain-taken z = first-zero-left _ _ (sym drain-rows ∙ z)

@@ -11,7 +11,7 @@ ghost use Rattle.metanet.specs.Change.{complianceBad, signRefused, settingRefus
 ghost use Rattle.metanet.specs.Line.{signed, metered, stepped};
 ghost use Rattle.book.specs.Arrangement.{sizeAt};
 ghost use Rattle.book.specs.Sound.{sound};
-ghost use Rattle.book.specs.Question.{totals, segment, ofCase};
+ghost use Rattle.book.specs.Question.{totals, segment, drain, ofCase};
 ghost use Rattle.book.specs.Calls.{item, hold, recall, question};
 ghost use Rattle.book.specs.Perform.{lent, refusalAt};
 ghost use Rattle.book.specs.Run.{runRefusal};
@@ -203,6 +203,20 @@ pub fn segment_number(words: &[u64], speeds: &[f64], k: u64, i: u64) -> u64
     }
     if (i < 1) | (words[1] < i) {
         return 17;
+    }
+    0
+}
+
+// The drain of the queue at segment i of case k: 19 no ramp, after the rows of the segment's report.
+pub fn drain_number(words: &[u64], speeds: &[f64], k: u64, i: u64) -> u64
+    ensures { λ r. ⌜ r ≡ refusalAt (question (ofCase k (drain i))) (lent (now (words .entry)) (now (speeds .entry))) ⌝ }
+{
+    let r = segment_number(words, speeds, k, i);
+    if r != 0 {
+        return r;
+    }
+    if segment::ramp_missing(words, i) {
+        return 19;
     }
     0
 }

@@ -1,5 +1,5 @@
 -- Which row refuses a question about a case, and that the figures read in the words are those of the case.
-use Prim.Native.Nat.{ℕ, _+_, _*_, _<_}
+use Prim.Native.Nat.{ℕ, _+_, _*_, _<_, _≤_}
 use mathlib.Core.Path.{_≡_, sym, ap, _∙_}
 use mathlib.Core.Bool.{not}
 use mathlib.Core.List.{List, [], _∷_}
@@ -24,10 +24,12 @@ use Rattle.metanet.proofs.InWords.{caseNumberIn}
 use Rattle.metanet.proofs.SegmentLaws.{segment-ok, truncating-speed}
 use Rattle.metanet.proofs.SoundLaws.{state-read, case-state}
 use Rattle.book.specs.declared.CaseReport.the-variants as caseReport
+use Rattle.book.specs.declared.SegmentFigures.{SegmentFigures}
 use Rattle.book.specs.declared.SegmentReport.the-variants as segmentReport
 use Rattle.book.specs.Arrangement.{caseWord, caseSpeed, networkAt, sizeAt, caseAt}
 use Rattle.book.specs.Sound.{sound}
 use Rattle.metanet.specs.Report.{caseFigures, segmentFigures}
+use Rattle.metanet.specs.Drain.{drainTime, timeFigures, drainFigures}
 use Rattle.case_words.specs.Sums.{figureAt, Summable}
 use Rattle.reports.specs.Figures.{figuresAt, stateFigures, Showable}
 use Rattle.refusal.specs.Ready.{Reportable}
@@ -119,15 +121,28 @@ module _ {words : List ℕ} {speeds : List Float} {n k : ℕ} (p : Reportable wo
           let c = caseIn words speeds (caseWord m k) (caseSpeed m k) m in
           figures (c .steps ∷ sumOf (λ i. stateOf (c .states) i .count) t ∷ sumOf (λ i. stateOf (c .states) i .queue) t ∷ c .arrivals ∷ c .exits ∷ c .time ∷ [])
 
-  -- the figures of segment i
-  pub segment-shown :
-      (i : ℕ) → i < n →
-      segmentSays (segmentReport.Figures (stateFigures (segmentIn (netOf words) i) (stateAt words speeds at from i)))
-      ≡ figures (segmentFigures (networkAt words) (caseAt words speeds k) i)
-  unfolding stateFigures segmentFigures caseIn
-  segment-shown i l =
-      (λ j. says (sym (segment-kept (netOf words) i (omega (arith, p .laid .size, l))) j) (sym (state-read words speeds at from n i l) j))
-      ∙ ap (λ (m : ℕ). says (segmentOf (networkAt words) i) (stateOf (statesIn words speeds (caseWord m k) (caseSpeed m k) m) i)) (p .laid .size)
-    where
-      says : Segment → SegmentState → Answer
-      says s r = segmentSays (segmentReport.Figures (stateFigures s r))
+  module _ (i : ℕ) (l : i < n) where
+    abbrev read : SegmentFigures
+    read = stateFigures (segmentIn (netOf words) i) (stateAt words speeds at from i)
+
+    -- whatever is made of segment i and its state as they are read is made of those of the case
+    of-case : {A : Type 0} (f : Segment → SegmentState → A)
+        → f (segmentIn (netOf words) i) (stateAt words speeds at from i) ≡ f (segmentOf (networkAt words) i) (stateOf (caseAt words speeds k .states) i)
+    unfolding caseIn
+    of-case f =
+        (λ j. f (sym (segment-kept (netOf words) i (omega (arith, p .laid .size, l))) j) (sym (state-read words speeds at from n i l) j))
+        ∙ ap (λ (m : ℕ). f (segmentOf (networkAt words) i) (stateOf (statesIn words speeds (caseWord m k) (caseSpeed m k) m) i)) (p .laid .size)
+
+    -- the figures of segment i
+    pub segment-shown : segmentSays (segmentReport.Figures read) ≡ figures (segmentFigures (networkAt words) (caseAt words speeds k) i)
+    unfolding stateFigures segmentFigures
+    segment-shown = of-case (λ s r. segmentSays (segmentReport.Figures (stateFigures s r)))
+
+    -- how long its queue takes to drain
+    pub drain-shown : timeFigures (drainTime (read .rate) (read .queue)) ≡ drainFigures (networkAt words) (caseAt words speeds k) i
+    unfolding stateFigures drainFigures
+    drain-shown = of-case (λ s r. timeFigures (drainTime (stateFigures s r .rate) (r .queue)))
+
+    pub queue-high : read .queue ≤ 1000000000000
+    unfolding stateFigures
+    queue-high = state-of i l .queue

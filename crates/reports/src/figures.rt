@@ -1,5 +1,6 @@
 // The figures that a report gives.
 use book::CaseFigures;
+use book::DrainReport;
 use book::SegmentFigures;
 use format::Segment;
 ghost use mathlib.Core.Path.{_≡_};
@@ -10,7 +11,9 @@ ghost use lib.ListN.{length};
 ghost use Rattle.format.specs.Words.{segmentIn};
 ghost use Rattle.metanet.specs.Case.{openKind};
 ghost use Rattle.metanet.specs.Words.{netOf, stateIn, stateAt};
+ghost use Rattle.metanet.specs.Drain.{drainTime, timeFigures};
 ghost use Rattle.book.specs.Arrangement.{caseWord, caseSpeed};
+ghost use Rattle.book.specs.Question.{figures, drainSays};
 ghost use Rattle.case_words.specs.Sums.{Summable};
 ghost use Rattle.reports.specs.Figures.{figuresAt, stateFigures, Showable};
 ghost use Rattle.refusal.specs.Ready.{Reportable};
@@ -77,4 +80,18 @@ pub(crate) fn segment_figures(
     let b = k * n + i;
     let s = network_words::kept_segment(&words[..network_words::NETWORK_WORDS], i as u32);
     state_figures(s, &words[a..], speeds[b])
+}
+
+// How long a queue takes to drain at a rate, in mv and mv a step.
+pub(crate) fn drain_time(rate: u64, queue: u64) -> DrainReport
+    requires { ⌜ queue ≤ 1000000000000 ⌝ }
+    ensures { λ r. ⌜ drainSays r ≡ figures (timeFigures (drainTime rate queue)) ⌝ }
+{
+    if queue == 0 {
+        return DrainReport::Steps(0);
+    }
+    if rate == 0 {
+        return DrainReport::Never;
+    }
+    DrainReport::Steps(queue / rate + 1)
 }

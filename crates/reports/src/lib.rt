@@ -2,12 +2,13 @@
 mod figures; // figures.rt: the figures that a report gives
 
 use book::CaseReport;
+use book::DrainReport;
 use book::RunReport;
 use book::SegmentReport;
 use book::Written;
 use refusal::calls;
 ghost use mathlib.Core.Path.{_≡_};
-ghost use Rattle.book.specs.Question.{totals, segment, ofCase, runCount, caseSays, segmentSays, runSays};
+ghost use Rattle.book.specs.Question.{totals, segment, drain, ofCase, runCount, caseSays, segmentSays, drainSays, runSays};
 ghost use Rattle.book.specs.Calls.{question};
 ghost use Rattle.book.specs.Perform.{Performs};
 ghost use Rattle.book.specs.Write.{writtenBytes, writeAnswer, writtenSays};
@@ -33,6 +34,19 @@ pub fn report_segment(words: &[u64], speeds: &[f64], k: u64, i: u64) -> SegmentR
     }
     let n = words[1] as usize;
     SegmentReport::Figures(figures::segment_figures(words, speeds, n, k as usize, (i - 1) as usize))
+}
+
+// How long the queue of segment i, 1..n, of case k takes to drain.
+pub fn drain(words: &[u64], speeds: &[f64], k: u64, i: u64) -> DrainReport
+    ensures { λ r. ⌜ Performs (question (ofCase k (drain i))) (now (words .entry)) (now (speeds .entry)) (drainSays r) (now (words .entry)) (now (speeds .entry)) ⌝ }
+{
+    let r = calls::drain_number(words, speeds, k, i);
+    if r != 0 {
+        return DrainReport::Refused(r);
+    }
+    let n = words[1] as usize;
+    let f = figures::segment_figures(words, speeds, n, k as usize, (i - 1) as usize);
+    figures::drain_time(f.rate, f.queue)
 }
 
 // The run count: accepted steps since Start.

@@ -39,9 +39,12 @@ pub const KINDS: &[Kind] = &[
     kind(8, 1, |scene, from| Call::Hold(scene.slot(from, false))),
     kind(7, 1, |scene, from| Call::Recall(scene.slot(from, true))),
     kind(4, 1, |scene, from| Call::Drop(scene.slot(from, true))),
-    kind(6, 2, |scene, from| scene.ask(from, 6, |_| Question::Case)),
+    kind(6, 2, |scene, from| scene.ask(from, |_| Question::Case)),
     kind(7, 3, |scene, from| {
-        scene.ask(from, 7, |from| Question::Segment(scene.segment(from)))
+        scene.ask(from, |from| Question::Segment(scene.segment(from)))
+    }),
+    kind(5, 3, |scene, from| {
+        scene.ask(from, |from| Question::Drain(scene.ramp(from)))
     }),
     kind(3, 1, |_, from| Call::RunCount { room: from.room(1) }),
     kind(3, 1, |scene, from| Call::Write {

@@ -46,6 +46,7 @@ fn ask_question(
         Question::Segment(segment) => {
             asked!(study_report_segment(words, speeds, case, segment, figures))
         }
+        Question::Drain(segment) => asked!(study_drain(words, speeds, case, segment, figures)),
     }
 }
 

@@ -8,9 +8,6 @@ use crate::engine::Function;
 use crate::reached;
 use std::fmt::Write;
 
-/// Meter where there is no ramp.
-const NO_RAMP: u64 = 19;
-
 pub struct Both {
     engine: Arrays,
     oracle: Arrays,
@@ -46,18 +43,13 @@ impl Both {
         let (words, speeds) = self.oracle.lent();
         let oracle = ask_arrays(words, speeds, &call);
         let stays = engine.number != 0 || call.only_asks();
-        let no_ramp = match call {
-            Call::Meter { segment, .. } if engine.number == NO_RAMP => Some(segment),
-            _ => None,
-        };
         self.calls.push((function, call));
         if engine != oracle {
             return Err(self.differs(&engine.beside(&oracle)));
         }
         self.compare(stays)?;
-        reached::note_answer(function, &engine);
-        if let Some(segment) = no_ramp {
-            reached::junctions::note_no_ramp(&self.engine.words, segment);
+        if let Some((_, call)) = self.calls.last() {
+            reached::note_answer(function, call, &self.engine.words, &engine);
         }
         Ok(engine)
     }

@@ -87,7 +87,7 @@ impl Long {
         if engine != book {
             return Err(differs(engine.beside(&book)));
         }
-        reached::note_answer(function, &engine);
+        reached::note_answer(function, &call, &self.words, &engine);
         Ok(engine)
     }
 

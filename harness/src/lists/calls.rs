@@ -1,12 +1,9 @@
 //! A line with a call, and the line with its answer.
 
 use super::arguments::{parse, Words};
-use crate::calls::{Answer, Call, Question, Start, RUN_FIGURES};
+use crate::calls::{figures_of, Answer, Call, Question, Start, RUN_FIGURES};
 use oracle::case::{Alinea, Setting};
 
-/// Figures of a report of a case, and of a segment.
-pub const CASE_FIGURES: usize = 6;
-pub const SEGMENT_FIGURES: usize = 7;
 /// Words lent past the figures, which must stay.
 const PAST: usize = 3;
 
@@ -31,16 +28,9 @@ pub fn call(words: &mut Words) -> Result<Call, String> {
         "hold" => Call::Hold(words.number()?),
         "recall" => Call::Recall(words.number()?),
         "drop" => Call::Drop(words.number()?),
-        "report" => Call::Question {
-            case: words.number()?,
-            question: Question::Case,
-            room: room(words, CASE_FIGURES)?,
-        },
-        "segment" => Call::Question {
-            case: words.number()?,
-            question: Question::Segment(words.number()?),
-            room: room(words, SEGMENT_FIGURES)?,
-        },
+        "report" => question(words, |_| Ok(Question::Case))?,
+        "segment" => question(words, |words| Ok(Question::Segment(words.number()?)))?,
+        "drain" => question(words, |words| Ok(Question::Drain(words.number()?)))?,
         "run_count" => Call::RunCount {
             room: room(words, 1)?,
         },
@@ -53,20 +43,52 @@ pub fn call(words: &mut Words) -> Result<Call, String> {
     Ok(call)
 }
 
-/// What the call must answer; `file` is that of the last accepted start.
-pub fn answer(call: &Call, words: &mut Words, file: &[u8]) -> Result<Answer, String> {
+/// What the call may answer, mostly one thing; `file` is that of the last
+/// accepted start.
+pub fn answers(call: &Call, words: &mut Words, file: &[u8]) -> Result<Vec<Answer>, String> {
     let mut answer = Answer::lent(call);
+    let mut figures = vec![Vec::new()];
     words.expect(">")?;
     match (words.word()?, call) {
         ("ok", Call::Write { .. }) => {
             words.expect("file")?;
             answer.give_bytes(file);
         }
-        ("ok", _) => answer.give(&words.numbers("")?),
+        ("ok", Call::Question { question, .. }) if matches!(question, Question::Drain(_)) => {
+            figures = drains(words.word()?)?;
+        }
+        ("ok", _) => figures = vec![words.numbers("")?],
         (number, _) => answer.number = parse(number)?,
     }
     words.end()?;
-    Ok(answer)
+    Ok(figures
+        .iter()
+        .map(|figures| answer.given(figures))
+        .collect())
+}
+
+/// The figures of each of these: a number of steps, or "never".
+fn drains(word: &str) -> Result<Vec<Vec<u64>>, String> {
+    let figures = |drain: &str| match drain {
+        "never" => Ok(vec![1, 0]),
+        steps => Ok(vec![0, parse(steps)?]),
+    };
+    word.split('|').map(figures).collect()
+}
+
+/// A question about a case; `own` reads what it has beside the case.
+fn question(
+    words: &mut Words,
+    own: fn(&mut Words) -> Result<Question, String>,
+) -> Result<Call, String> {
+    let case = words.number()?;
+    let question = own(words)?;
+    let room = room(words, figures_of(&question))?;
+    Ok(Call::Question {
+        case,
+        question,
+        room,
+    })
 }
 
 fn start(words: &mut Words) -> Result<Call, String> {

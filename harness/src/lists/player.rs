@@ -70,18 +70,18 @@ impl Player {
     fn call(&mut self, line: &str, answer: &str, times: u64) -> Result<(), String> {
         let call = calls::call(&mut Words::of(line, &self.named))?;
         let mut answer = Words::of(answer, &self.named);
-        let expected = calls::answer(&call, &mut answer, &self.file)?;
+        let expected = calls::answers(&call, &mut answer, &self.file)?;
         self.asked += 1;
         (0..times).try_for_each(|_| self.expect(&call, &expected))
     }
 
-    /// The engine answers this. A refused call and a question leave both
-    /// arrays; any other leaves what is past the needed lengths.
-    pub fn expect(&mut self, call: &Call, expected: &Answer) -> Result<(), String> {
+    /// The engine answers one of these. A refused call and a question leave
+    /// both arrays; any other leaves what is past the needed lengths.
+    pub fn expect(&mut self, call: &Call, expected: &[Answer]) -> Result<(), String> {
         let (words, speeds) = self.arrays.lent();
         let (function, answer) = ask_engine(words, speeds, call);
-        if answer != *expected {
-            return Err(format!("{function:?}: {}", answer.beside(expected)));
+        if !expected.contains(&answer) {
+            return Err(format!("{function:?}: {}", answer.beside(&expected[0])));
         }
         let stays = answer.number != 0 || call.only_asks();
         if let (Call::Start(start), false) = (call, stays) {

@@ -2,9 +2,8 @@
 //! the words.
 
 use super::arguments::parse;
-use super::calls::{CASE_FIGURES, SEGMENT_FIGURES};
 use super::player::Player;
-use crate::calls::{Answer, Call, Question};
+use crate::calls::{Answer, Call, Question, CASE_FIGURES, SEGMENT_FIGURES};
 use oracle::book::SLOTS;
 
 /// An empty slot.
@@ -83,7 +82,7 @@ fn ask(player: &mut Player, call: &Call, figures: Option<&[u64]>) -> Result<(), 
         Some(figures) => expected.give(figures),
         None => expected.number = EMPTY,
     }
-    player.expect(call, &expected)
+    player.expect(call, &[expected])
 }
 
 /// A case by its totals; no segment has been added yet.

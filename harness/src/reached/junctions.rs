@@ -1,16 +1,12 @@
-//! What compared steps met where freeways part and meet, and where Meter found
-//! no ramp.
+//! What compared steps met where freeways part and meet.
 
 mod met;
 
 use super::lines::{self, Counts, Line};
-use super::say_line;
-use crate::words::field_word;
 use met::Met;
 use oracle::case::Case;
 use oracle::file::Network;
 use oracle::step::flows::Flows;
-use std::sync::atomic::{AtomicU64, Ordering::Relaxed};
 
 /// Each is about all that is met.
 const LINES: [Line<Met>; 6] = [
@@ -89,11 +85,6 @@ const LINES: [Line<Met>; 6] = [
 
 static COUNTS: [Counts; LINES.len()] = [const { lines::none() }; LINES.len()];
 
-/// Where Meter was refused by 19.
-const NO_RAMP: [&str; 3] = ["segment 1", "no origin", "mainstream origin past segment 1"];
-
-static REFUSED: [AtomicU64; NO_RAMP.len()] = [const { AtomicU64::new(0) }; NO_RAMP.len()];
-
 /// Counts what a step of this case with these arrivals meets.
 pub fn note(network: &Network, case: &Case, arrivals: &[u32]) {
     let n = network.segments.len();
@@ -109,18 +100,7 @@ pub fn note(network: &Network, case: &Case, arrivals: &[u32]) {
     }
 }
 
-/// Counts where in this study Meter was refused by 19.
-pub fn note_no_ramp(words: &[u64], segment: u64) {
-    let origin = words[field_word(segment as usize - 1, 5)] == 1;
-    let place = match (segment, origin) {
-        (1, _) => 0,
-        (_, false) => 1,
-        (_, true) => 2,
-    };
-    REFUSED[place].fetch_add(1, Relaxed);
-}
-
 /// Prints the lines. Answers whether everything in them came up.
 pub fn say() -> bool {
-    lines::say(&LINES, &COUNTS) & say_line("meter refused by 19", NO_RAMP.iter().zip(&REFUSED))
+    lines::say(&LINES, &COUNTS)
 }

@@ -1,9 +1,10 @@
 //! Questions about one case of a study. They change nothing, and book and
 //! arrays answer them alike.
 
-use super::rows::judge_segment;
+use super::rows::{judge_ramp, judge_segment};
 use super::Figures;
 use crate::case::{Case, SegmentState};
+use crate::drain::Drain;
 use crate::network::Network;
 
 /// What is asked, with all arguments but the number of the case.
@@ -13,6 +14,8 @@ pub enum Question {
     Case,
     /// A report of one segment, counted from 1.
     Segment(u64),
+    /// How long the queue of a ramp takes to drain: its segment, from 1.
+    Drain(u64),
 }
 
 impl Question {
@@ -23,6 +26,12 @@ impl Question {
             Question::Segment(segment) => {
                 let place = judge_segment(network, segment)?;
                 Ok(segment_figures(&case.segments[place]).into())
+            }
+            Question::Drain(segment) => {
+                let place = judge_segment(network, segment)?;
+                judge_ramp(network, place)?;
+                let state = &case.segments[place];
+                Ok(Drain::of(state.queue, state.rate).figures().into())
             }
         }
     }

@@ -59,11 +59,15 @@ pub fn judge_sign(limit: u64, compliance: i64) -> Result<(), u8> {
     refuse_if(!(limit_fits && compliance_fits), SIGN)
 }
 
+/// Row 19.
+pub fn judge_ramp(network: &Network, place: usize) -> Result<(), u8> {
+    refuse_if(network.origin(place) != Origin::Ramp, NO_RAMP)
+}
+
 /// Rows 19 and 20.
 pub fn judge_meter(network: &Network, place: usize, setting: Setting) -> Result<(), u8> {
-    let segment = &network.segments[place];
-    refuse_if(network.origin(place) != Origin::Ramp, NO_RAMP)?;
-    let most = u64::from(segment.most_released);
+    judge_ramp(network, place)?;
+    let most = u64::from(network.segments[place].most_released);
     let fits = match setting {
         Setting::Open => true,
         Setting::Fixed(rate) => rate <= most,

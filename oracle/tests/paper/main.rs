@@ -3,6 +3,7 @@
 mod arrays;
 mod average;
 mod average_in_arrays;
+mod drain;
 mod file;
 mod junction;
 mod junction_file;

@@ -21,6 +21,7 @@
 //!   which meet in the fourth.
 //! - report, segment report: of the live case, or of slot 6 where slots are
 //!   filled; the segment is the last.
+//! - drain: of the same case, at the last ramp; its queue is longer than R.
 //! - hold recall drop: three calls, each judged, on slot 6. Where slots are
 //!   filled it is Drop, Hold, Recall: slot 6 is empty between the first two.
 //! - survey read, survey write: a file of 1,000 rows, and its list.

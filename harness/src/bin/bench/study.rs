@@ -46,10 +46,21 @@ pub fn rows() -> Vec<Row> {
             }
         }
     }
+    for filled in [0, SLOTS] {
+        rows.extend(RAMPS.map(|road| drain(road, filled)));
+    }
     rows.extend(ROADS.map(slow_origin));
     rows.extend(RAMPS.map(metered));
     rows.extend(JUNCTIONS.map(junctions));
     rows
+}
+
+/// The drain of a queue at the last ramp.
+fn drain((n, curves): (usize, usize), filled: usize) -> Row {
+    let network = busy::road(n, curves);
+    let works = [engine_side::drain, oracle_side::drain];
+    let lent = works.map(|work| Lent::new(&network, filled, work).with_queue());
+    sides("drain", lent, 100)
 }
 
 /// Step on a road that parts and meets.

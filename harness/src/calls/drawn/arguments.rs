@@ -2,7 +2,7 @@
 
 use super::source::{any_list, out_of, Source};
 use super::Scene;
-use crate::calls::{Call, Question, RUN_FIGURES};
+use crate::calls::{figures_of, Call, Question, RUN_FIGURES};
 use crate::cases::{arrivals, spoil_arrival, spoil_length};
 use crate::damages::{in_turn, SURVEY};
 use crate::draft::{record_length, CURVE, HEAD};
@@ -80,18 +80,16 @@ impl Scene<'_> {
         }
     }
 
-    /// A question with so many figures about a case; `own` draws all that the
-    /// question has beside the case and the room.
-    pub(super) fn ask(
-        &self,
-        from: &mut Source,
-        figures: usize,
-        own: impl FnOnce(&mut Source) -> Question,
-    ) -> Call {
+    /// A question about a case; `own` draws all that the question has beside
+    /// the case and the room.
+    pub(super) fn ask(&self, from: &mut Source, own: impl FnOnce(&mut Source) -> Question) -> Call {
+        let case = self.case(from);
+        let question = own(from);
+        let room = from.room(figures_of(&question));
         Call::Question {
-            case: self.case(from),
-            question: own(from),
-            room: from.room(figures),
+            case,
+            question,
+            room,
         }
     }
 

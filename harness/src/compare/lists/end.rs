@@ -2,7 +2,7 @@
 //! segment, as the arrays hold them and as reports give them.
 
 use super::List;
-use crate::calls::{Call, Question};
+use crate::calls::{figures_of, Call, Question};
 use crate::compare::Difference;
 use crate::random::Random;
 use oracle::book::SLOTS;
@@ -27,19 +27,20 @@ impl List {
         let segments = self.scene().network.segments.len() as u64;
         self.followed.take(Call::RunCount { room: 1 })?;
         for case in 0..=SLOTS as u64 {
-            self.ask(case, Question::Case, 6)?;
+            self.ask(case, Question::Case)?;
             for segment in 1..=segments {
-                self.ask(case, Question::Segment(segment), 7)?;
+                self.ask(case, Question::Segment(segment))?;
+                self.ask(case, Question::Drain(segment))?;
             }
         }
         Ok(())
     }
 
-    fn ask(&mut self, case: u64, question: Question, room: usize) -> Result<(), Difference> {
+    fn ask(&mut self, case: u64, question: Question) -> Result<(), Difference> {
         let question = Call::Question {
             case,
+            room: figures_of(&question),
             question,
-            room,
         };
         self.followed.take(question).map(|_| ())
     }

@@ -2,7 +2,7 @@
 
 use super::lent::Lent;
 use crate::busy::LINE_STEPS;
-use harness::engine::{study_drop, study_hold, study_recall};
+use harness::engine::{study_drain, study_drop, study_hold, study_recall};
 use harness::engine::{study_report, study_report_segment, study_run, study_start, study_step};
 use oracle::book::SLOTS;
 use std::hint::black_box;
@@ -41,6 +41,13 @@ pub fn report_segment(lent: &mut Lent) -> u64 {
     let segment = black_box(lent.arguments.segment);
     let (words, speeds) = (&mut lent.words, &mut lent.speeds);
     study_report_segment(words, speeds, case, segment, &mut lent.figures)
+}
+
+pub fn drain(lent: &mut Lent) -> u64 {
+    let case = black_box(lent.arguments.case);
+    let segment = black_box(lent.arguments.ramp);
+    let (words, speeds) = (&mut lent.words, &mut lent.speeds);
+    study_drain(words, speeds, case, segment, &mut lent.figures)
 }
 
 pub fn hold_recall_drop(lent: &mut Lent) -> u64 {

@@ -5,11 +5,12 @@ use crate::table::Side;
 use harness::calls::RUN_FIGURES;
 use harness::random::Random;
 use harness::stored_case::{put_case, state_word, total_word};
-use harness::stored_case::{ARRIVALS, COMPLIANCE, COUNT, EXITS, LIMIT, STEPS, TIME};
+use harness::stored_case::{ARRIVALS, COMPLIANCE, COUNT, EXITS, LIMIT, QUEUE, STEPS, TIME};
 use harness::study::{case_word, speeds_for, words_for, Study, RUNS};
 use harness::surveys::row_count;
 use oracle::book::SLOTS;
 use oracle::file::{self, Network};
+use oracle::network::Origin;
 
 /// One timed call, or three. It answers 0 where all are accepted.
 pub type Work = fn(&mut Lent) -> u64;
@@ -36,8 +37,9 @@ pub struct Arguments {
     survey: Vec<u8>,
     /// The case that reports are of: the live one, or the last filled slot.
     pub case: u64,
-    /// The segment that a report is of.
+    /// The segment that a report is of, and the last with a ramp, or 0.
     pub segment: u64,
+    pub ramp: u64,
 }
 
 impl Lent {
@@ -75,6 +77,15 @@ impl Lent {
         let network = &self.arguments.network;
         let live = &mut self.words[case_word(network.segments.len(), 0)..];
         put_case(&busy::metered(network), live, &mut self.speeds);
+        self
+    }
+
+    /// The same with a queue at the last ramp of the case that is asked about.
+    pub fn with_queue(mut self) -> Lent {
+        let n = self.arguments.network.segments.len();
+        let case = case_word(n, self.arguments.case as usize);
+        let ramp = self.arguments.ramp as usize - 1;
+        self.words[case + state_word(ramp, QUEUE)] = 987_654;
         self
     }
 
@@ -157,6 +168,7 @@ impl Arguments {
             segments.iter().map(|state| state.queue).collect(),
         ];
         let narrow = |list: &Vec<u64>| list.iter().map(|&number| number as u32).collect();
+        let ramps = (0..segments.len()).filter(|&place| network.origin(place) == Origin::Ramp);
         Arguments {
             network: network.clone(),
             file: file::write(network),
@@ -166,6 +178,7 @@ impl Arguments {
             survey: Vec::new(),
             case: filled as u64,
             segment: segments.len() as u64,
+            ramp: ramps.last().map_or(0, |place| place as u64 + 1),
         }
     }
 }

@@ -41,6 +41,11 @@ pub fn report_segment(lent: &mut Lent) -> u64 {
     report_of(lent, &Question::Segment(segment))
 }
 
+pub fn drain(lent: &mut Lent) -> u64 {
+    let segment = black_box(lent.arguments.ramp);
+    report_of(lent, &Question::Drain(segment))
+}
+
 pub fn hold_recall_drop(lent: &mut Lent) -> u64 {
     let slot = black_box(SLOTS as u64);
     let [hold, recall, drop] = [

@@ -29,6 +29,7 @@ use Rattle.book.specs.declared.SegmentReport.the-variants as segmentReport
 use Rattle.book.specs.Arrangement.{caseWord, caseSpeed, networkAt, sizeAt, caseAt}
 use Rattle.book.specs.Sound.{sound}
 use Rattle.metanet.specs.Report.{caseFigures, segmentFigures}
+use Rattle.metanet.specs.Sound.{mvMost}
 use Rattle.metanet.specs.Drain.{drainTime, timeFigures, drainFigures}
 use Rattle.case_words.specs.Sums.{figureAt, Summable}
 use Rattle.reports.specs.Figures.{figuresAt, stateFigures, Showable}
@@ -143,6 +144,6 @@ module _ {words : List ℕ} {speeds : List Float} {n k : ℕ} (p : Reportable wo
     unfolding stateFigures drainFigures
     drain-shown = of-case (λ s r. timeFigures (drainTime (stateFigures s r .rate) (r .queue)))
 
-    pub queue-high : read .queue ≤ 1000000000000
+    pub queue-high : read .queue ≤ mvMost
     unfolding stateFigures
     queue-high = state-of i l .queue

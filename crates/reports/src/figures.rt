@@ -11,6 +11,7 @@ ghost use lib.ListN.{length};
 ghost use Rattle.format.specs.Words.{segmentIn};
 ghost use Rattle.metanet.specs.Case.{openKind};
 ghost use Rattle.metanet.specs.Words.{netOf, stateIn, stateAt};
+ghost use Rattle.metanet.specs.Sound.{mvMost};
 ghost use Rattle.metanet.specs.Drain.{drainTime, timeFigures};
 ghost use Rattle.book.specs.Arrangement.{caseWord, caseSpeed};
 ghost use Rattle.book.specs.Question.{figures, drainSays};
@@ -84,7 +85,7 @@ pub(crate) fn segment_figures(
 
 // How long a queue takes to drain at a rate, in mv and mv a step.
 pub(crate) fn drain_time(rate: u64, queue: u64) -> DrainReport
-    requires { ⌜ queue ≤ 1000000000000 ⌝ }
+    requires { ⌜ queue ≤ mvMost ⌝ }
     ensures { λ r. ⌜ drainSays r ≡ figures (timeFigures (drainTime rate queue)) ⌝ }
 {
     if queue == 0 {

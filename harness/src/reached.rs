@@ -1,8 +1,10 @@
 //! Which numbers the C functions answered in this run, how runs ended, where
-//! files were refused, what steps met at a mainstream origin, at ALINEA ramps,
-//! and where freeways part and meet, and what calls about a ramp met.
+//! files were refused, what steps met at a mainstream origin, at ramps that
+//! jam, at ALINEA ramps, and where freeways part and meet, and what calls about
+//! a ramp met.
 
 mod alinea;
+mod jams;
 mod junctions;
 mod lines;
 mod mainstream;
@@ -62,6 +64,7 @@ pub fn note_answer(function: Function, call: &Call, words: &[u64], answer: &Answ
 /// Counts what a step of this case with these arrivals meets.
 pub fn note_step(network: &Network, case: &Case, arrivals: &[u32]) {
     mainstream::note(network, case, arrivals);
+    jams::note(network, case);
     alinea::note(network, case);
     junctions::note(network, case, arrivals);
 }
@@ -86,6 +89,7 @@ pub fn say() -> bool {
     complete &= say_ends();
     complete &= places::say();
     complete &= mainstream::say();
+    complete &= jams::say();
     complete &= alinea::say();
     complete &= ramps::say();
     junctions::say() && complete

@@ -3,7 +3,7 @@ use format::Segment;
 use metanet::Ramp;
 use metanet::SignSetting;
 ghost use mathlib.Core.Path.{_≡_};
-ghost use Prim.Native.Nat.{_<_, _≤_, min, max};
+ghost use Prim.Native.Nat.{_*_, _/_, _<_, _≤_, min, max};
 ghost use Rattle.metanet.specs.Flow.{jamBound, signSpeed, alineaRate, releaseOf, outflowOf, exitPart};
 ghost use Rattle.metanet.specs.Speed.{area};
 ghost use Rattle.metanet.proofs.Ready.{AreaOk, SignOk, RampOk};
@@ -16,7 +16,28 @@ pub(crate) fn area_of(s: Segment) -> u64
     s.metres * s.lanes
 }
 
-// The most that a segment with n mv lets in from its origin: 0 from the jam density on, and at once where there is no origin.
+// The lesser of two. The test is a number, 0 or 1, and no branch.
+fn lesser(a: u64, b: u64) -> u64
+    ensures { λ r. ⌜ r ≡ min a b ⌝ }
+{
+    let less = (a < b) as u64;
+    less * a + (1 - less) * b
+}
+
+// The whole part of most × room ÷ range. A division by range is compiled with a branch on how long its operands are, so nothing of room
+// is divided by it: scaled is what one mv of room counts for, in parts of 2²², rounded down. The result is low or one more; the last test,
+// a number again, says which.
+fn portion(most: u64, room: u64, range: u64) -> u64
+    requires { ⌜ (most ≤ 300000) × (room ≤ 3200000) × (0 < range) × (range ≤ 3200000) ⌝ }
+    ensures { λ r. ⌜ r ≡ most * room / range ⌝ }
+{
+    let scaled = most * 4194304 / range;
+    let low = scaled * room / 4194304;
+    low + ((low + 1) * range <= most * room) as u64
+}
+
+// The most that a segment with n mv lets in from its origin: 0 from the jam density on, and at once where there is no origin. Nothing
+// branches on n: its room is J × G less the lesser of J × G and n.
 pub(crate) fn jam_bound(most: u64, jam: u64, critical: u64, g: u64, n: u64) -> u64
     requires { ⌜ (most ≤ 300000) × (jam ≤ 200) × (critical < jam) × (0 < g) × (g ≤ 16000) ⌝ }
     ensures { λ r. ⌜ r ≡ jamBound most jam critical g n ⌝ }
@@ -25,10 +46,7 @@ pub(crate) fn jam_bound(most: u64, jam: u64, critical: u64, g: u64, n: u64) -> u
         return 0;
     }
     let full = jam * g;
-    if full <= n {
-        return 0;
-    }
-    most * (full - n) / ((jam - critical) * g)
+    portion(most, full - lesser(full, n), (jam - critical) * g)
 }
 
 // The speed that a shown sign gives, m/h.

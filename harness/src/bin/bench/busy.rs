@@ -104,6 +104,41 @@ pub fn metered(network: &Network) -> Case {
     case
 }
 
+/// N at ramps on either side of J × G, in a random order.
+pub struct Jams {
+    /// N of each segment below and above; the same where no ramp is.
+    counts: Vec<[u64; 2]>,
+    /// For each of many steps a bit for each segment.
+    above: Vec<u64>,
+}
+
+impl Jams {
+    /// One veh/km/lane below and above, so that little else in a step goes by
+    /// the side.
+    pub fn new(network: &Network) -> Jams {
+        let counts = |(place, segment): (usize, &Segment)| {
+            let jam = u64::from(segment.jam);
+            let densities = match network.origin(place) {
+                Origin::Ramp => [jam - 1, jam + 1],
+                Origin::None | Origin::Mainstream => [20; 2],
+            };
+            densities.map(|density| density * segment.lane_metres())
+        };
+        let mut random = Random::new(1, 2, 4);
+        Jams {
+            counts: network.segments.iter().enumerate().map(counts).collect(),
+            above: (0..4_096).map(|_| random.number()).collect(),
+        }
+    }
+
+    /// N of each segment before such a step.
+    pub fn counts(&self, turn: usize) -> impl Iterator<Item = u64> + '_ {
+        let above = self.above[turn % self.above.len()];
+        let sides = self.counts.iter().enumerate();
+        sides.map(move |(place, side)| side[(above >> place & 1) as usize])
+    }
+}
+
 /// Arrivals of many steps, in mv: about 3,600 vehicles an hour on the road
 /// and 300 at each ramp.
 pub fn arrivals(network: &Network) -> Vec<Vec<u32>> {

@@ -17,8 +17,9 @@
 //! - step: Step. Slow origin: segment 1 shows 40 km/h, so that its origin is
 //!   bounded by speed in every step. Metered: every ramp has ALINEA with z 1,
 //!   so that its rate moves in every step; elsewhere a third of them has it,
-//!   with z 6. Junctions: each first of four segments parts into the next two,
-//!   which meet in the fourth.
+//!   with z 6. Jammed: before every step N is put just below or just above
+//!   J × G at every ramp, in a random order. Junctions: each first of four
+//!   segments parts into the next two, which meet in the fourth.
 //! - report, segment report: of the live case, or of slot 6 where slots are
 //!   filled; the segment is the last.
 //! - drain: of the same case, at the last ramp; its queue is longer than R.

@@ -51,6 +51,7 @@ pub fn rows() -> Vec<Row> {
     }
     rows.extend(ROADS.map(slow_origin));
     rows.extend(RAMPS.map(metered));
+    rows.extend(RAMPS.map(jammed));
     rows.extend(JUNCTIONS.map(junctions));
     rows
 }
@@ -84,6 +85,14 @@ fn metered((n, curves): (usize, usize)) -> Row {
     let works = [engine_side::step, oracle_side::step];
     let lent = works.map(|work| Lent::new(&network, 0, work).with_meters());
     sides("step, metered", lent, 100)
+}
+
+/// Step, with N at every ramp now below, now above J × G.
+fn jammed((n, curves): (usize, usize)) -> Row {
+    let network = busy::road(n, curves);
+    let works = [engine_side::step, oracle_side::step];
+    let lent = works.map(|work| Lent::new(&network, 0, work).with_jams());
+    sides("step, jammed", lent, 100)
 }
 
 /// The engine's Step, with empty slots.

@@ -1,31 +1,35 @@
-use Prim.Native.Nat.{ℕ, _-_, _*_, _/_}
+use Prim.Native.Nat.{ℕ, _-_, _*_, _/_, _≤_, min}
 use mathlib.Core.Bool.{Bool, true, false, cond}
-use mathlib.Core.Path.{_≡_, refl, sym}
+use mathlib.Core.Path.{_≡_, refl}
 use native.Mathlib.Omega.{arith}
-use native.Mathlib.Nat.{mul-le-mul, mul-pos, zero-mul, zero-div}
+use native.Mathlib.Nat.{mul-le-mul, mul-pos, zero-mul, mul-zero, zero-div}
 use lib.Dec.{leb}
 use borrow.Author.Needs.{needs}
-use borrow.Author.Tests.{le-leb, lt-leb}
+use borrow.Author.Tests.{leb-true}
 use Rattle.laws.proofs.Tests.{fits-mul}
 use Rattle.metanet.specs.Flow.{jamBound}
 use Rattle.segment.proofs.flow.jam_bound.Statement.{statement}
 use Rattle.segment.proofs.flow.jam_bound.Tie as tie
 
--- where Q is 0, either way
-none : (jam critical g n : ℕ) → jamBound 0 jam critical g n ≡ 0
-none jam critical g n = go (leb (jam * g) n)
+-- the room up to the jam density is J × G less the lesser of that and N: from there on it is 0, and so is the bound
+by-room : (most full range n : ℕ) → most * (full - min full n) / range ≡ cond (leb full n) 0 (most * (full - n) / range)
+by-room most full range n = go (leb full n) refl
   where
-    go : (b : Bool) → cond b 0 (0 * (jam * g - n) / ((jam - critical) * g)) ≡ 0
-    go true = refl
-    go false = simp (zero-mul, zero-div)
+    go : (t : Bool) → leb full n ≡ t → most * (full - min full n) / range ≡ cond t 0 (most * (full - n) / range)
+    go true e = let none : full - min full n ≡ 0 = omega (arith, leb-true full n e) in simp (none, mul-zero, zero-div)
+    go false e = let left : full - min full n ≡ full - n = omega arith in simp left
 
 returns : tie.Need-returns
-returns c = let a = c .before .args in rw (c .if1 .taken) (sym (none (a .jam) (a .critical) (a .g) (a .n)))
+returns c =
+    let a = c .before .args in
+    rw (c .if1 .taken, ← by-room 0 (a .jam * a .g) ((a .jam - a .critical) * a .g) (a .n)) (simp (zero-mul, zero-div))
 
-mul-result : tie.Need-mul-result
-mul-result c =
+portion-requires : tie.Need-portion-requires
+portion-requires c u =
     let p = c .before .before .pre in
-    fits-mul 300000 3200000 (p .0) (omega (arith, mul-le-mul (p .1) (p .4))) tt
+    let a = c .before .before .args in
+    let slope : a .jam - a .critical ≤ 200 = omega arith in
+    (p .0, omega (arith, mul-le-mul (p .1) (p .4)), mul-pos (omega arith) (p .3), omega (arith, mul-le-mul slope (p .4)))
 
 pub jam-bound-spec : {M : Type 1} → statement M
 jam-bound-spec =
@@ -33,6 +37,9 @@ jam-bound-spec =
     (tie.spec
     returns
     (λ c. fits-mul 200 16000 (c .before .pre .1) (c .before .pre .4) tt)
-    (λ c. simp (le-leb _ _ (c .if2 .taken))) (λ c. search needs) mul-result (λ c. search needs)
+    (λ c. search needs)
+    (λ c. omega (arith, c .lesser .ensures))
+    (λ c. search needs)
     (λ c. fits-mul 200 16000 (omega arith) (omega arith) tt)
-    (λ c. mul-pos (omega arith) (omega arith)) (λ c. simp (lt-leb _ _ (c .if2 .left))))
+    portion-requires
+    (λ c. simp (c .portion .ensures, c .before .lesser .ensures) (by-room _ _ _ _)))

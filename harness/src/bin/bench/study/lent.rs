@@ -1,6 +1,6 @@
 //! A study in lent arrays with the arguments of its calls, for either side.
 
-use crate::busy::{self, LINE_STEPS};
+use crate::busy::{self, Jams, LINE_STEPS};
 use crate::table::Side;
 use harness::calls::RUN_FIGURES;
 use harness::random::Random;
@@ -35,6 +35,8 @@ pub struct Arguments {
     arrivals: Vec<Vec<u32>>,
     /// A survey file, where rows are run.
     survey: Vec<u8>,
+    /// N before every step, where it is put.
+    jams: Option<Jams>,
     /// The case that reports are of: the live one, or the last filled slot.
     pub case: u64,
     /// The segment that a report is of, and the last with a ramp, or 0.
@@ -80,6 +82,13 @@ impl Lent {
         self
     }
 
+    /// The same with N just below or just above J × G at every ramp before
+    /// every step, in a random order.
+    pub fn with_jams(mut self) -> Lent {
+        self.arguments.jams = Some(Jams::new(&self.arguments.network));
+        self
+    }
+
     /// The same with a queue at the last ramp of the case that is asked about.
     pub fn with_queue(mut self) -> Lent {
         let n = self.arguments.network.segments.len();
@@ -110,6 +119,7 @@ impl Lent {
     /// The same for the step after so many.
     pub fn step_after(&mut self, steps: u64) -> (&mut [u64], &mut [f64], &[u32]) {
         self.put_back(steps);
+        self.put_jams();
         let arrivals = &self.arguments.arrivals;
         let arrivals = &arrivals[self.turn % arrivals.len()];
         self.turn += 1;
@@ -144,6 +154,16 @@ impl Lent {
         totals[STEPS] = steps;
         (totals[ARRIVALS], totals[EXITS], totals[TIME]) = (0, 0, 0);
     }
+
+    /// N of every segment before this step, where it is put.
+    fn put_jams(&mut self) {
+        let Arguments { network, jams, .. } = &self.arguments;
+        let Some(jams) = jams else { return };
+        let live = &mut self.words[case_word(network.segments.len(), 0)..];
+        for (place, count) in jams.counts(self.turn).enumerate() {
+            live[state_word(place, COUNT)] = count;
+        }
+    }
 }
 
 impl Side for Lent {
@@ -176,6 +196,7 @@ impl Arguments {
             wide_lists,
             arrivals: busy::arrivals(network),
             survey: Vec::new(),
+            jams: None,
             case: filled as u64,
             segment: segments.len() as u64,
             ramp: ramps.last().map_or(0, |place| place as u64 + 1),

@@ -1,4 +1,6 @@
 // Loops over lent arrays, and tests of numbers, that several crates use.
+#![tactic(auto)]
+
 pub mod number; // number.rt: big-endian numbers in bytes
 
 ghost use Rattle.std.specs.Prelude.{◌≡◌, ◌<◌, min, length, get_or};

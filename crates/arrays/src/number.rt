@@ -65,5 +65,5 @@ pub fn put_u32(out: &mut [u8], x: u64)
     ensures { out.new ≡ u32_bytes x ++ drop 4 out.old }
 {
     let four = u32_bytes(x);
-    bytes::copy(&four, out);
+    out[0..4].copy_from_slice(&four);
 }

@@ -1,4 +1,6 @@
 // Start: a study begun on a network file.
+#![tactic(auto)]
+
 mod words; // words.rt: the words and speeds that it puts in
 
 ghost use Rattle.book.specs.Perform.{Performs};

@@ -28,9 +28,9 @@ module _ (w : Network) (within : network_number w ≡ 0) (formed : Formed w) (mv
   network_is : network_of (file_of w) ≡ w
   network_is = read_back w within formed
 
-  module _ (a : Arrays) (many : words_for w.head.size ≤ length a.words) (speeds-many : speeds_for w.head.size ≤ length a.speeds) where
+  module _ (a : Arrays) (many : words_for w.head.size ≤ length a.words) (speeds_many : speeds_for w.head.size ≤ length a.speeds) where
     room : (ltb (length a.words) (words_for w.head.size) || ltb (length a.speeds) (speeds_for w.head.size)) ≡ false
-    room = λ i. le-ltb (length a.words) (words_for w.head.size) many i || le-ltb (length a.speeds) (speeds_for w.head.size) speeds-many i
+    room = λ i. le-ltb (length a.words) (words_for w.head.size) many i || le-ltb (length a.speeds) (speeds_for w.head.size) speeds_many i
 
     start-taken : refusal_at (start (file_of w) mvs speeds queues) a ≡ 0
     unfolding refusal_at refusal row

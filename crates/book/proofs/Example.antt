@@ -50,6 +50,6 @@ in_book_lem words speeds = refl
 
 pub tallies-answers : TalliesAnswers
 unfolding one_segment
-tallies-answers a many speeds-many =
-    begun-answers tallies within formed (20000 ∷ []) (90000 ∷ []) (5000 ∷ []) lists_taken a many speeds-many calls
+tallies-answers a many speeds_many =
+    begun-answers tallies within formed (20000 ∷ []) (90000 ∷ []) (5000 ∷ []) lists_taken a many speeds_many calls
     ∙ (λ i. accepted ∷ in_book_lem (length a.words) (length a.speeds) i)

@@ -45,7 +45,7 @@ module _ {words speeds : ℕ} {a : Arrays} {b : Book} (r : Rel words speeds a b)
           kept = ap kept_number s.net ∙ r.kept;
           network = ap network_in s.net ∙ r.network;
           runs = s.words_are 0 (omega arith) ∙ p;
-          runs-le = le;
+          runs_le = le;
           arranged = s.words_are 15 (omega arith) ∙ arranged;
           live = K;
           slots = Ks;
@@ -97,7 +97,7 @@ module _ {words speeds : ℕ} {a : Arrays} {b : Book} (r : Rel words speeds a b)
       pub slot_rel : Rel words speeds z after
       slot_rel =
           stored_rel s b.live slot b.runs
-          (word_stays 0 (λ q. omega (arith, q, lo)) ∙ r.runs) r.runs-le (word_stays 15 (λ q. omega (arith, q, hi)) ∙ r.arranged)
+          (word_stays 0 (λ q. omega (arith, q, lo)) ∙ r.runs) r.runs_le (word_stays 15 (λ q. omega (arith, q, hi)) ∙ r.arranged)
           (record { good = r.live.good; is = others 0 (omega arith) (λ q. omega (arith, q)) ∙ r.live.is })
           (λ j l f. slot_kept j l (eqb j k) refl f)
           (λ j l f. slot_in j l (eqb j k) refl f)

@@ -29,7 +29,7 @@ pub record Rel (words speeds : ℕ) (a : Arrays) (b : Book) : Type 0 where
   pub kept : kept_number (net_of a.words) ≡ 0
   pub network : network_at a.words ≡ b.network
   pub runs : run_count_at a.words ≡ b.runs
-  pub runs-le : b.runs ≤ 1000000
+  pub runs_le : b.runs ≤ 1000000
   pub arranged : arrangement_at a.words ≡ arrangement
   pub live : Kept a b 0 b.live
   pub slots : (k : ℕ) (l : Line) → b.slot k ≡ some l → Kept a b k l

@@ -40,19 +40,19 @@ module _ (a : Arrays) (fit : Fit a) (j k : ℕ) (from-six : j ≤ 6) (to-six : k
   words-many : length ws ≡ case_length n
   words-many = length_part a.words (case_word n j) (case_length n) (word_within j from-six)
 
-  speeds-many : length vs ≡ n
-  speeds-many = length_part a.speeds (case_speed n j) n (speed_within j from-six)
+  speeds_many : length vs ≡ n
+  speeds_many = length_part a.speeds (case_speed n j) n (speed_within j from-six)
 
   pub copy_stored : Stored a to k (case_at a.words a.speeds j) (study_word a.words)
   unfolding copied_words copied_speeds
   copy_stored =
       case_stored k to-six
       (put_same (case_word n k) (case_length n) ws a.words words-many (word_within k to-six))
-      (put_same (case_speed n k) n vs a.speeds speeds-many (speed_within k to-six))
+      (put_same (case_speed n k) n vs a.speeds speeds_many (speed_within k to-six))
       (case_at a.words a.speeds j)
       (case_same to.words a.words to.speeds a.speeds (case_word n k) (case_word n j) (case_speed n k) (case_speed n j) n
       (part_put (case_word n k) (case_length n) ws a.words words-many (word_within k to-six))
-      (part_put (case_speed n k) n vs a.speeds speeds-many (speed_within k to-six)))
+      (part_put (case_speed n k) n vs a.speeds speeds_many (speed_within k to-six)))
 
 -- ---- the calls
 

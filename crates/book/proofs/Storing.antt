@@ -68,8 +68,8 @@ module _ {words speeds : ℕ} {a : Arrays} {b : Book} (r : Rel words speeds a b)
 
   item-runs : (i : Item) → item_number i (grounds_in words speeds b) ≡ 0 → b.runs + item_steps i ≤ 1000000
   unfolding item_number
-  item-runs (signed i limit compliance) e = omega (arith, r.runs-le)
-  item-runs (metered i setting) e = omega (arith, r.runs-le)
+  item-runs (signed i limit compliance) e = omega (arith, r.runs_le)
+  item-runs (metered i setting) e = omega (arith, r.runs_le)
   item-runs (stepped ds) e =
       let few : b.runs < 1000000 = leb-false _ _ (row_passed _ _ _ (first_zero_right _ _ e)) in
       omega (arith, few)
@@ -117,7 +117,7 @@ module _ {words speeds : ℕ} {a : Arrays} {b : Book} (r : Rel words speeds a b)
     recall_rel =
         let p : (l : Line) × (b.slot k ≡ some l) = filled_some (b.slot k) is_filled_lem in
         let K : Kept a b k p.0 = r.slots k p.0 p.1 in
-        rw p.1 (live_rel r b.runs (runs_stay b.runs r.runs recall_store) p.0 K.good K.is r.runs-le)
+        rw p.1 (live_rel r b.runs (runs_stay b.runs r.runs recall_store) p.0 K.good K.is r.runs_le)
 
     pub drop_store : Stored a (stored (drop_slot k) a) 0 (case_at a.words a.speeds 0) (with_word (study_word a.words) k 0)
     drop_store = drop-stored a (fit r) k (low k there) (high k there)
@@ -133,7 +133,7 @@ module _ {words speeds : ℕ} {a : Arrays} {b : Book} (r : Rel words speeds a b)
 
 -- ---- Start, on arrays of any content
 
-module _ (file mvs speeds queues : List ℕ) (a : Arrays) (g : Grounds) (many : length a.words ≡ g.words) (speeds-many : length a.speeds ≡ g.speeds)
+module _ (file mvs speeds queues : List ℕ) (a : Arrays) (g : Grounds) (many : length a.words ≡ g.words) (speeds_many : length a.speeds ≡ g.speeds)
     (e : refusal (start file mvs speeds queues) g ≡ 0) where
   abbrev w : Network
   w = network_of file
@@ -157,7 +157,7 @@ module _ (file mvs speeds queues : List ℕ) (a : Arrays) (g : Grounds) (many : 
   speeds-room = ltb-false _ _ (or_right (ltb g.words (words_for w.head.size)) _ room)
 
   pub start_store : Begun a (stored (start file mvs speeds queues) a) w (start_case w mvs speeds queues)
-  start_store = start-stored a file mvs speeds queues file-taken (rw many words-room) (rw speeds-many speeds-room)
+  start_store = start-stored a file mvs speeds queues file-taken (rw many words-room) (rw speeds_many speeds-room)
 
   pub start_rel : Rel g.words g.speeds (stored (start file mvs speeds queues) a) (started w (start_case w mvs speeds queues))
   unfolding case_of start_marks
@@ -165,13 +165,13 @@ module _ (file mvs speeds queues : List ℕ) (a : Arrays) (g : Grounds) (many : 
       let s = start_store in
       record {
         words_long = s.words_long ∙ many;
-        speeds_long = s.speeds_long ∙ speeds-many;
+        speeds_long = s.speeds_long ∙ speeds_many;
         words_fit = words-room;
         speeds_fit = speeds-room;
         kept = s.kept;
         network = s.network;
         runs = s.words_are 0 (omega arith);
-        runs-le = omega arith;
+        runs_le = omega arith;
         arranged = s.words_are 15 (omega arith);
         live = record { good = good_start file mvs speeds queues file-taken lists_taken; is = s.live };
         slots = λ k l x. absurd (none_some l x);

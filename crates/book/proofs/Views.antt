@@ -83,7 +83,7 @@ module _ {words speeds : ℕ} {a : Arrays} {b : Book} (r : Rel words speeds a b)
   unfolding cases_number
   cases_view =
       row_skipped _ _ _
-      (λ i. le-ltb 1000000 (run_count_at a.words) (rw r.runs r.runs-le) i || not (eq-eqb _ _ r.arranged i))
+      (λ i. le-ltb 1000000 (run_count_at a.words) (rw r.runs r.runs_le) i || not (eq-eqb _ _ r.arranged i))
       ∙ first_zero _ _ (place_view 0 b.live r.live)
       ∙ first_of_all (λ k. slot_number a.words a.speeds (k + 1)) 6 (λ k l. slot_view (k + 1) (omega arith) (omega arith))
 

@@ -38,8 +38,8 @@ worked_answered : (l : WorkedList) → network_number l.network ≡ 0 → Formed
     → answers (enter_any words speeds) (map single (worked_calls l.network.head.size l.steps)) (started l.network (start_case_of l))
     ≡ answers_with l.steps (figures_along all_figures l.network (start_case_of l) [] l.steps))
     → WorkedHolds l → WorkedAnswered l
-worked_answered l within formed taken in_book_lem holds a many speeds-many =
-    begun-answers l.network within formed l.mvs l.speeds l.queues taken a many speeds-many (map single (worked_calls l.network.head.size l.steps))
+worked_answered l within formed taken in_book_lem holds a many speeds_many =
+    begun-answers l.network within formed l.mvs l.speeds l.queues taken a many speeds_many (map single (worked_calls l.network.head.size l.steps))
     ∙ ap (λ (l : List Answer). accepted ∷ l)
     (in_book_lem (length a.words) (length a.speeds) ∙ ap (answers_with l.steps) holds.reported ∙ answers_given l.steps)
 

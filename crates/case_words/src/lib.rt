@@ -1,4 +1,6 @@
 // A case in the lent words: a segment's state, and sums over all segments.
+#![tactic(auto)]
+
 ghost use Rattle.std.specs.Prelude.{◌≡◌, ◌+◌, ◌*◌, ◌<◌, ◌≤◌, ℕ, length};
 ghost use Rattle.laws.specs.Real.{real};
 ghost use Rattle.format.specs.Words.{head_in, entry_in, segment_in};

@@ -24,7 +24,7 @@ use Rattle.metanet.specs.Change.{sign_for, ramp_for, with_state}
 use Rattle.metanet.specs.Line.{signed, metered, stepped, Line, change, handed_in, arrivals_of}
 use Rattle.metanet.proofs.Ready.{SegmentOk, Flowing}
 use Rattle.metanet.proofs.SegmentLaws.{segment_ok, outflow_at_least}
-use Rattle.metanet.proofs.Balance.{new, release_waits, new_is, new_flowing, moves}
+use Rattle.metanet.proofs.Balance.{new, released_waits, new_is, new_flowing, moves}
 use Rattle.metanet.proofs.StepSound.{states_ok}
 use Rattle.emptying.specs.LongestWay.{longest_way}
 use Rattle.emptying.specs.Emptying.{p_of, busy_at, busy, busy_steps, Emptying}
@@ -119,7 +119,7 @@ module _ (w : Network) (z : rows_number w.head (entry_of w) (segment_of w) ≡ 0
     unfolding p_of
     step_falls =
         let less = falls (segment_of w) n rows.onward (moves w.head (entry_of w) (segment_of w) c.states c.steps ds ok a.flowing)
-        (λ i l. omega (arith, release_waits w.head (entry_of w) (segment_of w) c.states c.steps ds i, a.empty i l, none_came i l)) in
+        (λ i l. omega (arith, released_waits w.head (entry_of w) (segment_of w) c.states c.steps ds i, a.empty i l, none_came i l)) in
         let same = sum_ext (λ i. (state_of (step_case w c ds).states i).count * way i) _ n (λ i l. ap (λ (r : SegmentState). r.count * way i) (is_new i l)) in
         omega (arith, less, same)
 

@@ -1,6 +1,6 @@
 -- The law that carries F-7: where nothing comes from outside, P falls by at least all outflows, since the way out of what goes on is shorter by
 -- at least one segment. Of any outflows that are at most N.
-use Prim.Native.Nat.{ℕ, suc, ◌+◌, ◌-◌, ◌*◌, ◌≤◌, ◌<◌, max}
+use Prim.Native.Nat.{ℕ, suc, ◌+◌, ◌*◌, ◌≤◌, ◌<◌, max}
 use native.Mathlib.Nat.{add-mul, mul-suc, mul-zero, mul-le-mul_left, le-max_left, le-max_right}
 use native.Mathlib.Omega.{arith}
 use mathlib.Core.Path.{◌≡◌, sym, ap, ◌∙◌}

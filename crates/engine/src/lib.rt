@@ -1,4 +1,6 @@
 // The C interface: include/engine.h declares these functions for C. A slice passes as a pointer and a length.
+#![tactic(auto)]
+
 mod report; // report.rt: figures put into lent words
 
 ghost use Rattle.std.specs.Prelude.{◌≡◌, not, []};
@@ -189,7 +191,8 @@ pub extern "C" fn study_run(
 ) -> u64
     ensures { CalledRun file.now words.old speeds.old figures.old result words.new speeds.new figures.new }
 {
-    if figures.len() < 2 {
+    let short = figures.len() < 2;
+    if short {
         return report::no_room(refusal::calls::run_number(words, speeds, file));
     }
     report::put_run(study::run(words, speeds, file), figures)

@@ -9,7 +9,7 @@ use lib.Dec.{eqb, lit<}
 use lib.ListN.{length, take, drop, length-append}
 use lib.Seq.{drop-drop, drop_at}
 use borrow.Author.Tests.{le-ltb, eq-eqb, eqb-true}
-use Rattle.laws.specs.First.{first, first_of}
+use Rattle.laws.specs.First.{first_of}
 use Rattle.laws.specs.Lists.{part, parts}
 use Rattle.laws.specs.BigEndian.{u32_at, u32_bytes}
 use Rattle.laws.proofs.Tests.{or_left}

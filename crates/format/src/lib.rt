@@ -1,7 +1,9 @@
 // The network file: its types. specs/ says what the file means, proofs/ has the theorems about it; there is no code here.
+#![tactic(auto)]
+
 // The numbers of the head: the version, the step T in seconds, the number of segments n, the number of curves c, then τ in seconds,
 // ν in km²/h, κ in veh/km/lane and δ in thousandths.
-#[derive(Drop)]
+#[derive(Clone, Copy)]
 pub struct Head {
     pub version: u64,
     pub step: u64,
@@ -15,7 +17,7 @@ pub struct Head {
 
 // Where vehicles go on from a segment: the number of its first and of its second following segment, 0 for none, and the share to the
 // first in thousandths.
-#[derive(Drop)]
+#[derive(Clone, Copy)]
 pub struct Following {
     pub first: u64,
     pub second: u64,
@@ -25,7 +27,7 @@ pub struct Following {
 // The numbers of a segment: its length L in metres, lanes H, the number of its curve, critical and jam density C and J in
 // veh/km/lane, whether it has an origin, the exit share X in thousandths, the most mv that its origin releases in a step, Q, and what
 // follows it.
-#[derive(Drop)]
+#[derive(Clone, Copy)]
 pub struct Segment {
     pub metres: u64,
     pub lanes: u64,
@@ -40,7 +42,7 @@ pub struct Segment {
 
 // The number that refuses the file, or 0; the curve (6) or the record (7, 8, 27, 28); the rule of the row that is broken (4, 7, 27) or
 // the entry (6); each counted from 0; and the byte offset.
-#[derive(Drop)]
+#[derive(Clone, Copy)]
 pub struct Place {
     pub number: u64,
     pub part: u32,

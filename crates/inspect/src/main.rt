@@ -1,5 +1,7 @@
 // Program "inspect": reads a network on standard input and says what is wrong with it and where, or, where it is accepted, what it
 // holds. The place is that of the crate `places`; here it is only put into words.
+#![tactic(auto)]
+
 mod print; // print.rt: words and numbers on standard output
 mod head; // head.rt: the fields of the head and their ranges
 mod record; // record.rt: the fields of a record and their ranges

@@ -15,7 +15,7 @@ use Rattle.metanet.specs.Speed.{new_speed}
 use Rattle.metanet.specs.Step.{new_state, release_now, outflow_now, through, inflow, free_speed, first_way, second_way, rest_at, first_at, second_at, neighbours, step_state, step_states, exit_now, exits_now, vehicles_in}
 use Rattle.metanet.specs.Sound.{mv_most}
 use Rattle.metanet.proofs.Ready.{SegmentOk, Flowing, StateOk}
-use Rattle.metanet.proofs.SegmentLaws.{keep_within, rate_high, release_at_most_rate, outflow_at_most_count, exit_le}
+use Rattle.metanet.proofs.SegmentLaws.{keep_within, release_waits, rate_high, release_at_most_rate, outflow_at_most_count, exit_le}
 use Rattle.metanet.proofs.Sending.{Moves, thousandths, queues-balance}
 use Rattle.metanet.specs.declared.Flows.{Flows}
 
@@ -44,9 +44,8 @@ module _ (h : Head) (entry : ℕ → ℕ → ℕ) (segment : ℕ → Segment) (s
   new_is i l = get_or-table (step_state h entry segment states t ds) h.size i no_state l
 
   -- no more is released than waits
-  pub release_waits : (i : ℕ) → released i ≤ (state_of states i).queue + get_or ds i 0
-  unfolding release_now
-  release_waits i = omega arith
+  pub released_waits : (i : ℕ) → released i ≤ (state_of states i).queue + get_or ds i 0
+  released_waits i = release_waits (segment i) (state_of states i) t (get_or ds i 0) (neighbours h entry segment states i).bound
 
   module _ (ok : (i : ℕ) → i < h.size → SegmentOk h (segment i) (free_speed h entry segment i)) where
     -- new speeds lie in 1,000..F
@@ -72,7 +71,7 @@ module _ (h : Head) (entry : ℕ → ℕ → ℕ) (segment : ℕ → Segment) (s
       unfolding step_state new_state
       all_balance =
           queues-balance (moves (λ i l. (row i l).flowing)) (λ i. (state_of states i).queue) (λ i. get_or ds i 0) (λ i. (new i).queue) (λ i l. (ok i l).first_high) (λ i l. (ok i l).second_high)
-          (λ i l. omega (arith, release_waits i))
+          (λ i l. omega (arith, released_waits i))
 
       held_new : sum_of (vehicles_in (step_states h entry segment states t ds)) h.size ≡ sum_of (λ i. (new i).count + (new i).queue) h.size
       held_new = sum_ext _ (λ i. (new i).count + (new i).queue) h.size (λ i l. ap (λ (r : SegmentState). r.count + r.queue) (new_is i l))

@@ -9,7 +9,7 @@ use lib.ListN.{length, drop, get_or, set}
 use lib.Ieee.{Float, nan}
 use Rattle.laws.specs.Lists.{table, part, put_part}
 use Rattle.laws.proofs.Lists.{table_ext, table-set, part_at}
-use Rattle.laws.proofs.Outside.{SameOutside, part_part, part_before, part_after, get_d_after, put_same, part_put}
+use Rattle.laws.proofs.Outside.{SameOutside, part_part, part_before, part_after, get_or-after, put_same, part_put}
 use Rattle.metanet.specs.declared.SegmentState.{SegmentState}
 use Rattle.metanet.specs.Case.{Case}
 use Rattle.metanet.specs.Words.{state_in, state_at, states_in, case_in}
@@ -98,7 +98,7 @@ module _ (words : List ℕ) (speeds : List Float) (at from n i : ℕ) (ys : List
   state_other j l other = state_same put words (at + 16 * j) (at + 16 * j) _ (words_other j other)
 
   total_kept : (m : ℕ) → at + 16 * n ≤ m → get_or put m 0 ≡ get_or words m 0
-  total_kept m l = get_d_after state_put_same m 0 (omega (arith, state_within i n h))
+  total_kept m l = get_or-after state_put_same m 0 (omega (arith, state_within i n h))
 
   pub state_put : case_in put speeds at from n ≡ record { states = set c.states i (state_in ys (get_or speeds (from + i) nan)); steps = c.steps; arrivals = c.arrivals; exits = c.exits; time = c.time }
   unfolding case_in states_in

@@ -165,8 +165,8 @@ step_alike w c ds = refl
 lines_alike : (w : Network) (c : Case) (l : Line) → case_of (as_version2 w) c l ≡ case_of w c l
 unfolding case_of change
 lines_alike w c [] = refl
-lines_alike w c (signed i limit compliance ∷ l) = lines_alike w _ l
-lines_alike w c (metered i setting ∷ l) = lines_alike w _ l
+lines_alike w c (signed i limit compliance ∷ l) = lines_alike w (change (as_version2 w) c (signed i limit compliance)) l
+lines_alike w c (metered i setting ∷ l) = lines_alike w (change (as_version2 w) c (metered i setting)) l
 lines_alike w c (stepped ds ∷ l) = ap (λ (d : Case). case_of (as_version2 w) d l) (step_alike w c ds) ∙ lines_alike w _ l
 
 -- and no row but that of the chain does

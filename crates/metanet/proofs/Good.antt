@@ -25,10 +25,10 @@ pub record Good (w : Network) (s : Case) (l : Line) : Type 0 where
   pub exits_are : (case_of w s l).exits ≡ exits_of w s l
   pub balance : total_of w (case_of w s l) + exits_of w s l ≡ total_of w s + arrivals_of w l
   -- 40 segments of at most 200 × 2,000 × 8 mv and a queue of 1,000,000 each at the start; 40 arrivals of 1,000,000 a step
-  pub start-le : total_of w s ≤ 168000000
+  pub start_le : total_of w s ≤ 168000000
   pub few : steps_of l ≤ 20000
-  pub arrivals-le : arrivals_of w l ≤ 40000000 * steps_of l
+  pub arrivals_le : arrivals_of w l ≤ 40000000 * steps_of l
   -- a step adds at most 60 × (168,000,000 + 40,000,000 × 20,000)
-  pub time-le : (case_of w s l).time ≤ 48010080000000 * steps_of l
+  pub time_le : (case_of w s l).time ≤ 48010080000000 * steps_of l
   -- S and m
   pub averages : (i : ℕ) → i < w.head.size → Averaged (state_of (case_of w s l).states i).ramp (steps_of l) (since_meter i l)

@@ -85,8 +85,8 @@ module _ {w : Network} (net : GoodNetwork w) (mvs speeds queues : List ℕ) (z :
   each-le : (i : ℕ) → i < w.head.size → vehicles_in (begun w mvs speeds queues).states i ≤ 4200000
   each-le i l = omega (arith, vehicles_are w mvs speeds queues i l, count_le i l, (judged i l).waiting)
 
-  start-le : total_of w (begun w mvs speeds queues) ≤ 168000000
-  start-le = omega (arith, sum_high (vehicles_in (begun w mvs speeds queues).states) 4200000 w.head.size each-le, (net_within net).head.size_high)
+  start_le : total_of w (begun w mvs speeds queues) ≤ 168000000
+  start_le = omega (arith, sum_high (vehicles_in (begun w mvs speeds queues).states) 4200000 w.head.size each-le, (net_within net).head.size_high)
 
   start-sound : (i : ℕ) → i < w.head.size → SoundAt w.head (entry_of w) (segment_of w) (begun w mvs speeds queues).states i
   unfolding start_state flows_bad sign_bad setting_bad any_of
@@ -118,15 +118,15 @@ module _ {w : Network} (net : GoodNetwork w) (mvs speeds queues : List ℕ) (z :
       record {
         net = net;
         many = length-table (start_state w mvs speeds queues) w.head.size;
-        is_sound = case_sound w.head (entry_of w) (segment_of w) (begun w mvs speeds queues) start-sound start_means (omega (arith, start-le)) (omega arith) (omega arith) (omega arith) (omega arith);
+        is_sound = case_sound w.head (entry_of w) (segment_of w) (begun w mvs speeds queues) start-sound start_means (omega (arith, start_le)) (omega arith) (omega arith) (omega arith) (omega arith);
         steps_are = refl;
         arrivals_are = refl;
         exits_are = refl;
         balance = refl;
-        start-le = start-le;
+        start_le = start_le;
         few = omega arith;
-        arrivals-le = omega arith;
-        time-le = omega arith;
+        arrivals_le = omega arith;
+        time_le = omega arith;
         averages = λ i l. start-averaged i l (since_meter i []);
       }
 

@@ -61,7 +61,7 @@ AveragedBy w s l i =
 module _ {w : Network} {s : Case} {l : Line} (g : Good w s l) where
   -- 168,000,000 + 40,000,000 × 20,000
   pub total_le : total_of w (case_of w s l) ≤ 800168000000
-  total_le = omega (arith, g.balance, g.start-le, g.arrivals-le, g.few)
+  total_le = omega (arith, g.balance, g.start_le, g.arrivals_le, g.few)
 
   module _ (i : Item) (x : Changed w (case_of w s l) i) (a : AveragedBy w s l i) (few : steps_of l + item_steps i ≤ 20000) where
     abbrev new : Case
@@ -71,19 +71,19 @@ module _ {w : Network} {s : Case} {l : Line} (g : Good w s l) where
     balanced = omega (arith, x.total, g.balance)
 
     came_le : arrivals_of w l + handed_in w i ≤ 40000000 * (steps_of l + item_steps i)
-    came_le = omega (arith, g.arrivals-le, x.came)
+    came_le = omega (arith, g.arrivals_le, x.came)
 
     spent_le : new.time ≤ 48010080000000 * (steps_of l + item_steps i)
-    spent_le = omega (arith, g.time-le, x.time)
+    spent_le = omega (arith, g.time_le, x.time)
 
     new_sound : case_number w.head (entry_of w) (segment_of w) new ≡ 0
     new_sound =
         case_sound w.head (entry_of w) (segment_of w) new x.states
         (λ k l. average_within _ _ _ (x.states k l).setting (a k l))
-        (omega (arith, balanced, came_le, g.start-le))
+        (omega (arith, balanced, came_le, g.start_le))
         (omega (arith, x.steps, g.steps_are))
         (omega (arith, x.arrivals, g.arrivals_are, came_le))
-        (omega (arith, x.exits, g.exits_are, balanced, came_le, g.start-le))
+        (omega (arith, x.exits, g.exits_are, balanced, came_le, g.start_le))
         (omega (arith, spent_le))
 
     pub good_more : Good w s (l ++ (i ∷ []))
@@ -100,9 +100,9 @@ module _ {w : Network} {s : Case} {l : Line} (g : Good w s l) where
           arrivals_are = rw (c, arrivals) (omega (arith, x.arrivals, g.arrivals_are));
           exits_are = rw (c, exits) (omega (arith, x.exits, g.exits_are));
           balance = rw (c, exits, arrivals) balanced;
-          start-le = g.start-le;
+          start_le = g.start_le;
           few = rw steps few;
-          arrivals-le = rw (arrivals, steps) came_le;
-          time-le = rw (c, steps) spent_le;
+          arrivals_le = rw (arrivals, steps) came_le;
+          time_le = rw (c, steps) spent_le;
           averages = λ k m. rw (c, steps, since_snoc k l i) (a k m);
         }

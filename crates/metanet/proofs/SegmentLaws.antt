@@ -1,5 +1,5 @@
 -- Bounds of what a step makes of one segment.
-use Prim.Native.Nat.{ℕ, ◌*◌, ◌/◌, ◌≤◌, ◌<◌, min, max}
+use Prim.Native.Nat.{ℕ, ◌+◌, ◌*◌, ◌/◌, ◌≤◌, ◌<◌, min, max}
 use native.Mathlib.Nat.{le_trans, le_of_eq, mul_comm, mul_assoc, mul-le-mul_left, mul-le-mul_right, div-le_of_le-mul, le-div_iff_mul-le}
 use native.Mathlib.Omega.{arith}
 use mathlib.Core.Path.{sym}
@@ -62,6 +62,11 @@ rate_high s {r} R n t = pick (moves r t) (eqb r.kind open_kind)
     pick true c = omega (arith, R.least)
     pick false true = omega arith
     pick false false = R.rate
+
+-- no more is released than waits
+pub release_waits : (s : Segment) (r : SegmentState) (t d bound : ℕ) → release_now s r t d bound ≤ r.queue + d
+unfolding release_now
+release_waits s r t d bound = omega arith
 
 -- and no more is released than the rate
 pub release_at_most_rate : (s : Segment) (r : SegmentState) (t d bound : ℕ) → release_now s r t d bound ≤ (ramp_now s r.count r.ramp t).rate

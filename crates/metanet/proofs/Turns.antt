@@ -316,8 +316,8 @@ module _ {ws : List ℕ} {vs : List Float} {ds : List ℕ} {at from n : ℕ} (ok
           back : (o x y : ℕ) → x ≤ o → y ≡ o - x → o - y ≡ x
           back o x y a b = omega arith
 
-      speeds-many : set speeds (from + i) r.speed ≡ puts 1 (state-speeds t) from (i + 1) vs
-      speeds-many =
+      speeds_many : set speeds (from + i) r.speed ≡ puts 1 (state-speeds t) from (i + 1) vs
+      speeds_many =
           set_split speeds (from + i) r.speed (omega (arith, same_speeds, ok.speed_room))
           ∙ (λ j. take (from + one j) (u.speeds_are j) ++ ((is_new j).speed ∷ drop (step j) (u.speeds_are j)))
           ∙ puts_more 1 (state-speeds t) from n vs (speeds-each t) speeds-room i h
@@ -335,6 +335,6 @@ module _ {ws : List ℕ} {vs : List Float} {ds : List ℕ} {at from n : ℕ} (ok
           record {
             within = omega arith;
             words_are = stored s y;
-            speeds_are = speeds-many;
+            speeds_are = speeds_many;
             entries = g;
           }

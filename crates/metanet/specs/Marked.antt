@@ -41,7 +41,7 @@ pub record MarkedCases : Type 0 where
   -- jam bound 6,400 at N 20,000, 0 at 180,000 and 180,001
   pub jam_bound_lem : jam_bound 6000 180 30 1000 20000 ≡ 6400
   pub jam_bound_full : jam_bound 6000 180 30 1000 180000 ≡ 0
-  pub jam_bound-over : jam_bound 6000 180 30 1000 180001 ≡ 0
+  pub jam_bound_over : jam_bound 6000 180 30 1000 180001 ≡ 0
   -- q, gain 100, target 30, G 1,000: −450 at N 34,500, 0 at 30,001 and 29,999; with m 1 and S = N it is still so
   pub change_down : rate_change 100 30 1000 1 34500 ≡ neg_ℤ (pos 450)
   pub change_just_above : rate_change 100 30 1000 1 30001 ≡ pos 0

@@ -1,6 +1,8 @@
 // A case and one METANET step with ALINEA ramps: their types. specs/ says what they mean, proofs/ has the theorems; there is no code here.
+#![tactic(auto)]
+
 // What a sign is set to: the limit in km/h, 0 where it is dark; compliance in thousandths with 500 added, 0 where it is dark.
-#[derive(Drop)]
+#[derive(Clone, Copy)]
 pub struct SignSetting {
     pub limit: u64,
     pub compliance: u64,
@@ -9,7 +11,7 @@ pub struct SignSetting {
 // A ramp: the kind of its setting (0 open, 1 fixed, 2 ALINEA) and its rate R in mv a step; of ALINEA the target in veh/km/lane, gain
 // and least in mv, interval z in steps, the sum S of N in mv since the rate last moved and the number m of steps in it; each 0 where the
 // setting is another.
-#[derive(Drop)]
+#[derive(Clone, Copy)]
 pub struct Ramp {
     pub kind: u64,
     pub rate: u64,
@@ -22,14 +24,14 @@ pub struct Ramp {
 }
 
 // What the last step let out of a segment, exit part included, and what it released from the queue, in mv.
-#[derive(Drop)]
+#[derive(Clone, Copy)]
 pub struct Flows {
     pub outflow: u64,
     pub release: u64,
 }
 
 // A segment's part of a case: N and queue w in mv, sign, ramp, flows of the last step, speed v in m/h.
-#[derive(Drop)]
+#[derive(Clone, Copy)]
 pub struct SegmentState {
     pub count: u64,
     pub queue: u64,
@@ -41,7 +43,7 @@ pub struct SegmentState {
 
 // What enters a segment: the mv passed on to it, the outflows of the segments that enter it, the sum of their outflow × v, how many
 // they are, and v of the last of them.
-#[derive(Drop)]
+#[derive(Clone, Copy)]
 pub struct Entry {
     pub passed: u64,
     pub outflows: u64,
@@ -52,7 +54,7 @@ pub struct Entry {
 
 // What a step of one segment goes by beside its state: the mv passed on to it, the speed u at which vehicles enter, the density ρ'
 // ahead, the desired speed V, and the most mv that its origin lets in.
-#[derive(Drop)]
+#[derive(Clone, Copy)]
 pub struct Neighbours {
     pub passed: u64,
     pub before: f64,
@@ -62,7 +64,7 @@ pub struct Neighbours {
 }
 
 // One segment's state before the step: N, w, v, ρ, u and ρ'.
-#[derive(Drop)]
+#[derive(Clone, Copy)]
 pub struct Old {
     pub count: u64,
     pub queue: u64,
@@ -73,14 +75,14 @@ pub struct Old {
 }
 
 // A sign is dark, or shows a speed in m/h.
-#[derive(Drop)]
+#[derive(Clone, Copy)]
 pub enum Sign {
     Dark,
     Shown(f64),
 }
 
 // A ramp's setting: open, fixed at a rate in mv a step, or ALINEA with target in veh/km/lane, gain and least in mv, interval z in steps.
-#[derive(Drop)]
+#[derive(Clone, Copy)]
 pub enum Setting {
     Open,
     Fixed(u64),

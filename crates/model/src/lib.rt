@@ -1,4 +1,6 @@
 // One METANET step with ALINEA ramps over the lent words and speeds.
+#![tactic(auto)]
+
 mod states; // states.rt: all segments of a case, in place
 mod totals; // totals.rt: steps, arrivals, exits, time
 

@@ -1,4 +1,6 @@
 // The network file: read or refused by a number, its curves shown as the file's own bytes.
+#![tactic(auto)]
+
 pub mod rows; // rows.rt: rows 3, 4, 6, 7, 27 and 8 of a network's numbers
 mod heads; // heads.rt: the first 16 bytes, rows 1 to 5
 mod curves; // curves.rt: a curve's entries, row 6

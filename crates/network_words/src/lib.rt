@@ -1,5 +1,7 @@
 // A network kept in words, a word a number: what they hold, whether the rows refuse it, and how a file's network gets there.
 // Places are those of docs/ARRANGEMENT.md; words that are free are 0.
+#![tactic(auto)]
+
 mod judge; // judge.rt: the rows of a kept network
 mod origins; // origins.rt: row 28, and which segments have one before them
 mod keeper; // keeper.rt: the parts of a file's network, written into words

@@ -1,4 +1,6 @@
 // A network kept in words, written back as the bytes of its file.
+#![tactic(auto)]
+
 ghost use Rattle.std.specs.Prelude.{◌≡◌, ◌+◌, ◌*◌, ◌≤◌, ◌++◌, length, get_or, take, drop};
 ghost use Rattle.laws.specs.Lists.{puts};
 ghost use Rattle.laws.specs.BigEndian.{u32_bytes};
@@ -70,7 +72,7 @@ fn put_head(out: &mut [u8], h: Head)
     ensures { out.new ≡ head_bytes h ++ drop 16 out.old }
 {
     let head = head_bytes(h);
-    bytes::copy(&head, out);
+    out[0..16].copy_from_slice(&head);
 }
 
 // Writes the first w bytes of a record.
@@ -79,7 +81,7 @@ fn put_record(out: &mut [u8], s: Segment, w: usize)
     ensures { out.new ≡ take w (long_bytes s) ++ drop w out.old }
 {
     let record = record_bytes(s);
-    bytes::copy(&record[..w], out);
+    out[0..w].copy_from_slice(&record[0..w]);
 }
 
 // Writes count entries, which stand in the words from 16 on, at byte 16 of the file.

@@ -1,4 +1,6 @@
 // Where a network file is wrong: the number that refuses it, and the part, the rule and the byte that it is refused for.
+#![tactic(auto)]
+
 mod rules; // rules.rt: the rules of rows 2, 4 and 7, one by one, and the first that is broken
 mod followers; // followers.rt: the rules of row 27
 mod search; // search.rt: the first entry, record and segment that are refused

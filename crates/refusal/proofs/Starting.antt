@@ -52,9 +52,9 @@ module _ (b : List ℕ) (z : file_number b ≡ 0) where
         let no = any_of_false _ e in
         record {
           file = z;
-          mvs-many = eqb-true _ _ (not-false _ (no 0));
-          speeds-many = eqb-true _ _ (not-false _ (no 1));
-          queues-many = eqb-true _ _ (not-false _ (no 2));
+          mvs_many = eqb-true _ _ (not-false _ (no 0));
+          speeds_many = eqb-true _ _ (not-false _ (no 1));
+          queues_many = eqb-true _ _ (not-false _ (no 2));
         }
 
     lists_are : start_number (network_of b) mvs speeds queues ≡ row uneven 13 (first_of (start_number_on b mvs speeds queues) (head_of b).size)

@@ -1,7 +1,7 @@
 -- What acceptance of a call says, for the functions that go on from there.
 use Rattle.std.specs.Prelude.{ℕ, ◌≤◌, ◌≡◌, List, length, get_or, Float}
 use Rattle.book.specs.Arrangement.{slots}
-use Rattle.book.specs.Sound.{sound, case_number_at}
+use Rattle.book.specs.Sound.{case_number_at}
 use Rattle.book.proofs.Laid.{Laid}
 use Rattle.format.specs.File.{head_of, segment_on, entry_on, file_number}
 use Rattle.metanet.specs.Start.{start_segment_number}
@@ -20,6 +20,6 @@ start_number_on b mvs speeds queues i =
 -- Start's lists, on a file that is accepted, are as long as it says
 pub record Listed (b mvs speeds queues : List ℕ) : Type 0 where
   pub file : file_number b ≡ 0
-  pub mvs-many : length mvs ≡ (head_of b).size
-  pub speeds-many : length speeds ≡ (head_of b).size
-  pub queues-many : length queues ≡ (head_of b).size
+  pub mvs_many : length mvs ≡ (head_of b).size
+  pub speeds_many : length speeds ≡ (head_of b).size
+  pub queues_many : length queues ≡ (head_of b).size

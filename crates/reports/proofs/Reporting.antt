@@ -19,7 +19,6 @@ use Rattle.book.specs.declared.CaseReport.TheVariants as caseReport
 use Rattle.book.specs.declared.SegmentFigures.{SegmentFigures}
 use Rattle.book.specs.declared.SegmentReport.TheVariants as segmentReport
 use Rattle.book.specs.Arrangement.{case_word, case_speed, network_at, size_at, case_at}
-use Rattle.book.specs.Sound.{sound}
 use Rattle.metanet.specs.Report.{case_figures, segment_figures}
 use Rattle.metanet.specs.Sound.{mv_most}
 use Rattle.metanet.specs.Drain.{drain_time, time_figures, drain_figures}
@@ -27,17 +26,16 @@ use Rattle.case_words.specs.Sums.{figure_at, Summable}
 use Rattle.reports.specs.Figures.{figures_at, state_figures, Showable}
 use Rattle.refusal.specs.Ready.{Reportable}
 use Rattle.book.proofs.Judging.{placed, size_high, case_judged}
-use Rattle.book.proofs.Sounds.{laid}
 use Rattle.book.proofs.Network.{head_kept, segment_kept}
 use Rattle.book.specs.Question.{case_says, segment_says, figures, Answer}
 
 -- ---- the figures
 
-number_of : (v : Float) → Truncates v → T (not (is_nan v))
+is_a_number : (v : Float) → Truncates v → T (not (is_nan v))
 unfolding is_nan lt
-number_of nan t = absurd t.above
-number_of (inf s) t = tt
-number_of (fin s m e) t = tt
+is_a_number nan t = absurd t.above
+is_a_number (inf s) t = tt
+is_a_number (fin s m e) t = tt
 
 -- figure o of state i is read in the state's words
 figure_read : (words : List ℕ) (at o i : ℕ) → figure_at words at o i ≡ get_or (drop (at + 16 * i) words) o 0
@@ -73,7 +71,7 @@ module _ {words : List ℕ} {speeds : List Float} {n k : ℕ} (p : Reportable wo
   unfolding state_in
   showable i l =
       let t = truncating_speed (segment_ok p.laid.net i (omega (arith, p.laid.size))) (state_of_lem i l).flowing.speed in
-      record { above = t.above; under = t.under; number = number_of _ t }
+      record { above = t.above; under = t.under; number = is_a_number _ t }
 
   pub counts_summable : Summable words at 0 n
   unfolding state_in

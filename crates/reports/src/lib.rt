@@ -1,4 +1,6 @@
 // The questions about a study, and Write.
+#![tactic(auto)]
+
 mod figures; // figures.rt: the figures that a report gives
 
 ghost use Rattle.std.specs.Prelude.{◌≡◌};

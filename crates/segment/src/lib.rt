@@ -1,4 +1,6 @@
 // One segment of a METANET step with ALINEA ramps.
+#![tactic(auto)]
+
 mod around; // around.rt: what is around a segment
 mod bound; // bound.rt: what bounds an origin
 pub mod entering; // entering.rt: what enters a segment

@@ -1,4 +1,6 @@
 // Whether a case and a study are sound.
+#![tactic(auto)]
+
 mod case; // case.rt: a case
 mod study; // study.rt: a study
 

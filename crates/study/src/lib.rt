@@ -1,4 +1,6 @@
 // A study in the lent words and speeds: its network, run count and marks, its live case and six slots.
+#![tactic(auto)]
+
 mod change; // change.rt: what a sign and a setting put into a state
 mod copy; // copy.rt: a case copied to the place of another
 mod rows; // rows.rt: a row of arrivals taken as a step, and the rows of a survey file

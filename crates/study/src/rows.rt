@@ -78,7 +78,8 @@ pub(crate) fn run_rows(words: &mut [u64], speeds: &mut [f64], file: &[u8], n: us
     while k < rows {
         let next = k + 1;
         let stopped = take_row(words, speeds, file, n, k as usize);
-        if stopped != 0 {
+        let ends = stopped != 0;
+        if ends {
             return Ran::Rows { taken: k, stopped };
         }
         k = next;

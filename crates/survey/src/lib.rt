@@ -1,4 +1,6 @@
 // The survey file: judged, its arrivals read into a lent list or row by row, and written.
+#![tactic(auto)]
+
 mod arrivals; // arrivals.rt: arrivals read one after the other
 mod writer; // writer.rt: what refuses a list, the head and the arrivals written
 

@@ -44,7 +44,7 @@ pub(crate) fn put_head(out: &mut [u8], n: u64, rows: u64)
     ensures { out.new ≡ head_bytes n rows ++ drop 8 out.old }
 {
     let head = head_bytes(n, rows);
-    bytes::copy(&head, out);
+    out[0..8].copy_from_slice(&head);
 }
 
 // Writes the list from byte 8 of the file on.

@@ -1,6 +1,8 @@
 // Program "tallies": reads a network of one segment on standard input, initial a study on it with 20,000 mv, 90,000 m/h and a queue of
 // 5,000, steps with arrivals 4,000, then 0, and prints steps, segments, queues, arrivals, exits and time at each. Where a call is
 // refused it prints the number alone.
+#![tactic(auto)]
+
 ghost use Rattle.std.specs.Prelude.{◌≡◌, [], ◌∷◌};
 ghost use Rattle.metanet.specs.Line.{stepped};
 ghost use Rattle.book.specs.Calls.{item};

@@ -1,4 +1,6 @@
 // The longest way out of each segment of a network that is kept in words: document 01's recursion in linear time.
+#![tactic(auto)]
+
 ghost use Rattle.std.specs.Prelude.{◌≡◌, ◌≤◌, max, length};
 ghost use Rattle.laws.specs.Lists.{table};
 ghost use Rattle.format.specs.Words.{head_in, segment_in};

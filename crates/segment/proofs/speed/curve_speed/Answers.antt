@@ -1,0 +1,28 @@
+use Rattle.std.proofs.Common.{◌-◌, ◌*◌, ◌/◌, ◌%◌, ◌≤◌, mod-lt, mul-le-mul, arith}
+use Rattle.format.proofs.Rows.{entry_high}
+use Rattle.segment.proofs.speed.curve_speed.Goals.{After-kept_entry-low, After-whole-2}
+use Rattle.segment.proofs.speed.curve_speed.Goals as goal
+
+-- e(j)
+high : (c : After-kept_entry-low) → c.kept_entry-high.result ≤ 200000
+high c =
+    omega (arith, c.kept_entry-high.ensures, entry_high _ c.requires.curve_within (c.args.n / c.args.g) (omega arith))
+
+-- (e(j) − e(j+1)) × (N mod G)
+product : (c : After-whole-2)
+    → (let a = c.args in (c.kept_entry-high.result - c.kept_entry-low.result) * (a.n % a.g) ≤ 3200000000)
+product c =
+    let a = c.args in
+    mul-le-mul {n₂ = 200000} {m₂ = 16000} (omega (arith, high (goal.at.overflow_mul-high c).After-kept_entry-low)) (omega (arith, mod-lt a.n {m = a.g} (omega arith)))
+
+pub whole-requires-2 : goal.whole-requires-2
+whole-requires-2 c = omega (arith, high c)
+
+pub overflow_mul-high : goal.overflow_mul-high
+overflow_mul-high c = omega (arith, product c)
+
+pub whole-requires-3 : goal.whole-requires-3
+whole-requires-3 c = omega (arith, product c)
+
+pub whole-requires : goal.whole-requires
+whole-requires c = omega (arith, c.kept_entry.ensures, entry_high _ c.requires.curve_within 200 (omega arith))

@@ -1,5 +1,7 @@
 # make run    the program tallies on its network
 # make test   the gate: every proof and must-fail edit, then the comparison with the second implementation and the lists
+# make library the static library, target/staticlib/libengine.a
+# make inspect the program inspect, target/bin/inspect
 # make lists  lists of calls from a third implementation, with their answers
 # make bench  engine and second implementation side by side
 # make fuzz   coverage-guided fuzzing of the C interface under AddressSanitizer, an hour on two cores
@@ -10,7 +12,7 @@
 CARGO = cargo --offline
 HARNESS = harness/target/release
 LIBRARY = target/staticlib/libengine.a
-SOURCES := crates.txt $(shell find crates -type f)
+SOURCES := crates.txt $(shell find crates -type f -not -path '*/out/*')
 CFLAGS = -std=c11 -Wall -Wextra -Werror -pedantic -O1 -g
 VALGRIND = valgrind --error-exitcode=9 -q
 FILES = 200000
@@ -19,11 +21,10 @@ FUZZ_SECONDS = 3600
 MEMORY = 300
 SEED = 20261115
 
-.PHONY: run test lists bench fuzz fuzzer fuzz-check long-compare harness oracle-tests c-tests inspect-tests memory scenarios
+.PHONY: run test lists library inspect bench fuzz fuzzer fuzz-check long-compare harness oracle-tests c-tests inspect-tests memory scenarios
 
 run:
-	rt check tallies
-	target/bin/tallies < crates/tallies/stdin
+	cd crates/tallies && rt run < stdin
 
 test:
 	bash tools/gate FILES=$(FILES) SEED=$(SEED)
@@ -55,7 +56,11 @@ target/fuzz/libengine.a: fuzz/instrument $(LIBRARY)
 
 # The static library is rebuilt from proved crates only: rt refuses to write it otherwise.
 $(LIBRARY): $(SOURCES)
-	rt staticlib engine
+	cd crates/engine && rt lib
+	mkdir -p target/staticlib
+	cp crates/engine/out/libengine.a $@
+
+library: $(LIBRARY)
 
 harness: $(LIBRARY)
 	cd harness && $(CARGO) build --release
@@ -82,9 +87,15 @@ target/c/first: README.md include/engine.h $(LIBRARY)
 	sed -n '/^live:/p;/^held:/p' README.md > $@.expected
 	gcc $(CFLAGS) -Iinclude $@.c $(LIBRARY) -o $@
 
-# The program must be there: rt check inspect, or the gate's first part, makes it.
-inspect-tests:
+inspect: target/bin/inspect
+
+inspect-tests: target/bin/inspect
 	tests/inspect/run target/bin/inspect
+
+target/bin/inspect: $(SOURCES)
+	cd crates/inspect && rt run < stdin > /dev/null
+	mkdir -p target/bin
+	cp crates/inspect/out/inspect $@
 
 # In every second list the arrays end where what is lent ends, so that valgrind sees any touch past it.
 memory: harness target/c/tallies

@@ -2,19 +2,13 @@
 ghost use Rattle.std.specs.Prelude.{◌≡◌, ◌+◌, ◌%◌, ◌<◌, ◌≤◌, ◌++◌, length, drop};
 ghost use Rattle.laws.specs.BigEndian.{byte_at, u16_at, u32_at, u32_bytes};
 
-fn wide(x: u8) -> u64
-    ensures { (result ≡ x) × (result < 256) }
-{
-    x as u64
-}
-
 pub fn byte_at(b: &[u8], i: usize) -> u64
     ensures { (result ≡ byte_at b.now i) × (result < 256) }
 {
-    if i < b.len() {
-        return wide(b[i]);
+    match b.get(i) {
+        Some(x) => u64::from(*x),
+        None => 0,
     }
-    0
 }
 
 pub fn u16_at(b: &[u8], i: usize) -> u64
@@ -29,7 +23,7 @@ pub fn u32_in(b: &[u8], i: usize) -> u64
     requires { i + 4 ≤ length b.now }
     ensures { (result ≡ u32_at b.now i) × (result < 4294967296) }
 {
-    wide(b[i]) * 16777216 + wide(b[i + 1]) * 65536 + wide(b[i + 2]) * 256 + wide(b[i + 3])
+    u64::from(u32::from_be_bytes([b[i], b[i + 1], b[i + 2], b[i + 3]]))
 }
 
 // One test where all four bytes are there, for Start reads thousands.
@@ -53,17 +47,11 @@ pub fn low(x: u64) -> u8
     (x % 256) as u8
 }
 
-fn u32_bytes(x: u64) -> [u8; 4]
-    ensures { result ≡ u32_bytes x }
-{
-    [low(x / 16777216), low(x / 65536), low(x / 256), low(x)]
-}
-
 // Writes over the first four bytes of the part that it is lent.
 pub fn put_u32(out: &mut [u8], x: u64)
     requires { 4 ≤ length out.old }
     ensures { out.new ≡ u32_bytes x ++ drop 4 out.old }
 {
-    let four = u32_bytes(x);
-    out[0..4].copy_from_slice(&four);
+    let [_, _, _, _, a, b, c, d] = x.to_be_bytes();
+    out[..4].copy_from_slice(&[a, b, c, d]);
 }

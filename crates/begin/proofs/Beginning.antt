@@ -1,48 +1,93 @@
 -- Start: what it writes, part by part, and that this is what it stores.
-use Prim.Native.Nat.{ℕ, ◌+◌, ◌*◌, ◌≤◌, ◌<◌}
+use Prim.Native.Nat.{ℕ, suc, ◌-◌, ◌+◌, ◌*◌, ◌≤◌, ◌<◌}
 use mathlib.Core.Path.{◌≡◌, refl, sym, ap, ◌∙◌}
-use mathlib.Core.List.{List, ◌++◌, append_assoc, append-nil}
+use mathlib.Core.List.{List, [], ◌∷◌, ◌++◌, append_assoc}
 use native.Mathlib.Nat.{zero-mul, zero-add}
 use native.Mathlib.Omega.{arith}
-use lib.ListN.{length, get_or, take, drop, replicate, length-append, length-take, drop_of_length-le}
+use native.Mathlib.Numerals.{add-one}
+use lib.ListN.{length, get_or, set, take, drop, replicate, length-append, length-take}
+use lib.Seq.{drop-cons, drop-drop}
 use lib.Ieee.{Float}
+use borrow.Rule.Slice.PartMut.{put_mid}
+use Rattle.std.proofs.lemmas.List.{set_at}
+use Rattle.std.specs.Prelude.{Err}
 use Rattle.laws.specs.Lists.{table, part, put_part, parts, puts}
 use Rattle.laws.specs.Real.{real}
-use Rattle.laws.proofs.Lists.{get_or-table, table_ext, parts_ext, length-parts, length_part}
-use Rattle.laws.proofs.Puts.{put_after, puts-after}
+use Rattle.laws.specs.Refusal.{number}
+use Rattle.laws.specs.declared.Refusal.{Refusal}
+use Rattle.laws.proofs.Lists.{get_or-table, length-table, table_ext, parts_ext, length-parts, length_part, span}
+use Rattle.laws.proofs.Puts.{part_changed, puts_none, puts_more, put_after, puts-after}
+use Rattle.laws.proofs.Refused.{number_some}
 use Rattle.format.specs.declared.Segment.{Segment}
 use Rattle.format.specs.Network.{network_from, segment_of}
 use Rattle.format.specs.File.{head_of, network_of, file_number}
 use Rattle.format.specs.Words.{kept_words}
+use Rattle.format.specs.declared.Head.{Head}
 use Rattle.format.proofs.File.{network_within}
 use Rattle.format.proofs.Kept.{length_kept}
 use Rattle.metanet.specs.declared.SegmentState.{SegmentState}
 use Rattle.metanet.specs.Case.{Case, no_state, state_of}
-use Rattle.metanet.proofs.InWords.{state_words}
 use Rattle.metanet.specs.Words.{put_case, put_case_speeds}
+use Rattle.metanet.specs.Start.{start_state, start_case}
+use Rattle.metanet.proofs.InWords.{state_words}
 use Rattle.metanet.proofs.Written.{case_begun}
 use Rattle.book.specs.Arrangement.{case_word, start_marks}
-use Rattle.book.specs.Calls.{start}
-use Rattle.metanet.specs.Start.{start_state, start_case}
-use Rattle.book.specs.Perform.{lent, start_words, stored}
+use Rattle.book.specs.Calls.{Call, start}
+use Rattle.book.specs.Question.{accepted, verdict_says}
+use Rattle.book.specs.Perform.{lent, refusal_at, Performs, answer_of, start_words, stored}
+use Rattle.book.proofs.Performing.{refuses, accepts}
+use Rattle.refusal.specs.Ready.{Listed}
+use Rattle.refusal.proofs.Starting.{same_segment, start-file, start-room, start-speeds-room, start_listed}
 use Rattle.begin.specs.Ready.{open_words, open_words_on, begin_words}
-use Rattle.refusal.proofs.Starting.{same_segment}
 
 -- ---- what is written, part by part
 
-pub length_open : (mv queue most : ℕ) → length (open_words mv queue most) ≡ 16
+-- zeros were filled in, over a part whose length the code computed as k
+pub zeros_are : (l : List ℕ) {ys : List ℕ} (at w : ℕ) {k : ℕ} → k ≡ w → at + w ≤ length l → ys ≡ replicate (length (part at k l)) 0
+    → put_mid at k l ys ≡ put_part at w (replicate w 0) l
+zeros_are l at w is room e = part_changed l _ (λ (x : List ℕ). replicate w 0) at w _ is (e ∙ ap (λ (m : ℕ). replicate m 0) (rw is (length_part l at w room)))
+
+-- zeros in 15 places, and after them the arrangement number
+pub marks_are : (words zeros : List ℕ) → 2576 ≤ length words → zeros ≡ replicate (length (part 2560 15 words)) 0
+    → set (put_mid 2560 15 words zeros) 2575 3 ≡ put_part 2560 16 start_marks words
+unfolding start_marks
+marks_are words zeros room e =
+    let front : length (take 2560 words ++ replicate 15 0) ≡ 2575 = simp (length-append, length-take) (omega arith) in
+    ap (λ (l : List ℕ). set l 2575 3) (zeros_are words 2560 15 refl (omega arith) e)
+    ∙ ap (λ (l : List ℕ). set (take 2560 words ++ (replicate 15 0 ++ l)) 2575 3) (drop-cons words 2575 0 (omega arith))
+    ∙ ap (λ (l : List ℕ). set l 2575 3) (sym (append_assoc (take 2560 words) (replicate 15 0) _))
+    ∙ set_at (take 2560 words ++ replicate 15 0) (get_or words 2575 0) (drop 2576 words) 3 2575 front
+    ∙ append_assoc (take 2560 words) (replicate 15 0) (3 ∷ drop 2576 words)
+
+-- the speeds, one by one
+module _ (f : ℕ → Float) (l : List Float) where
+  pub speeds_none : table f 0 ++ drop 0 l ≡ l
+  unfolding table
+  speeds_none = refl
+
+  pub speeds_more : (i : ℕ) → i < length l → table f (i + 1) ++ drop (i + 1) l ≡ set (table f i ++ drop i l) i (f i)
+  unfolding table
+  speeds_more i more =
+      rw (add-one, drop-cons l i (f i) more)
+      (append_assoc (table f i) (f i ∷ []) (drop (suc i) l) ∙ sym (set_at (table f i) (get_or l i (f i)) (drop (suc i) l) (f i) i (length-table f i)))
+
+pub ruleset speed_loop = (speeds_none, speeds_more)
+
+length_open : (mv queue most : ℕ) → length (open_words mv queue most) ≡ 16
 unfolding open_words
 length_open mv queue most = refl
 
--- a part of 16, whose length the code computed as k
-pub part_long : (l : List ℕ) (at k : ℕ) → k ≡ 16 → at + 16 ≤ length l → length (part at k l) ≡ 16
-part_long l at k is h = ap (λ (m : ℕ). length (part at m l)) is ∙ length_part l at 16 h
+-- the states, one by one, each over a part whose length the code computed from its two ends
+module _ (b mvs queues words : List ℕ) where
+  pub states_none : 2576 ≤ length words → words ≡ puts 16 (open_words_on b mvs queues) 2576 0 words
+  states_none room = sym (puts_none 16 (open_words_on b mvs queues) 2576 0 words (λ k l. length_open _ _ _) (omega arith))
 
--- xs was written over all of a part of 16
-pub whole : (xs l : List ℕ) (at k : ℕ) → k ≡ 16 → xs ≡ xs ++ drop 16 (part at k l)
-whole xs l at k is =
-    let short : length (part at k l) ≤ 16 = simp length-take (omega (arith, is)) in
-    sym (ap (λ (ys : List ℕ). xs ++ ys) (drop_of_length-le (part at k l) short) ∙ append-nil xs)
+  pub states_more : (i : ℕ) → 2576 + 16 * (i + 1) ≤ length words
+      → let at = 2576 + 16 * i in puts 16 (open_words_on b mvs queues) 2576 (i + 1) words
+      ≡ put_mid at (at + 16 - at) (puts 16 (open_words_on b mvs queues) 2576 i words) (open_words_on b mvs queues i)
+  states_more i room = rw (add-one i) (sym (puts_more 16 (open_words_on b mvs queues) 2576 (suc i) words (λ k l. length_open _ _ _) (omega arith) i (omega arith)) ∙ rw (span (2576 + 16 * i) 16, drop-drop) refl)
+
+pub ruleset state_loop = (states_none, states_more)
 
 module _ (b mvs queues words : List ℕ) (z : file_number b ≡ 0) where
   abbrev front : List ℕ
@@ -109,3 +154,36 @@ module _ (b mvs speeds queues : List ℕ) (z : file_number b ≡ 0) where
   start-speeds words lentSpeeds =
       ap (λ (m : ℕ). take m lentSpeeds ++ (table (λ i. (state_of c.states i).speed) n ++ drop (m + n) lentSpeeds)) (zero-mul n)
       ∙ (λ j. table_ext (λ i. (state_of c.states i).speed) (λ i. real (get_or speeds i 0)) n (λ i l. ap (λ (r : SegmentState). r.speed) (state_is i l) ∙ (unfold start_state in refl)) j ++ drop (zero-add n j) lentSpeeds)
+
+-- ---- the call, answered
+
+-- refused, it leaves both arrays as they came
+pub start_refused : (call : Call) (words : List ℕ) (lentSpeeds : List Float) (why : Refusal) → number why ≡ refusal_at call (lent words lentSpeeds)
+    → Performs call words lentSpeeds (verdict_says (Err why)) words lentSpeeds
+start_refused call words lentSpeeds why e = refuses call words lentSpeeds e (number_some why)
+
+module _ (words : List ℕ) (lentSpeeds : List Float) (b mvs speeds queues : List ℕ) (taken : 0 ≡ refusal_at (start b mvs speeds queues) (lent words lentSpeeds)) {h : Head} (is : h ≡ head_of b) where
+  listed : Listed b mvs speeds queues
+  listed = start_listed words lentSpeeds b mvs speeds queues (sym taken)
+
+  -- accepted, its file is, and what it writes has room
+  pub begun_on : (file_number b ≡ 0) × (h.size ≡ (head_of b).size)
+  begun_on = (start-file words lentSpeeds b mvs speeds queues (sym taken), ap (λ (x : Head). x.size) is)
+
+  pub words_fit : (h.size ≤ length mvs) × (h.size ≤ length queues) × (2584 + 16 * h.size ≤ length words)
+  words_fit = rw is (omega (arith, listed.mvs_many), omega (arith, listed.queues_many), omega (arith, start-room words lentSpeeds b mvs speeds queues (sym taken)))
+
+  pub speeds_fit : (h.size ≤ length speeds) × (h.size ≤ length lentSpeeds)
+  speeds_fit = rw is (omega (arith, listed.speeds_many), omega (arith, start-speeds-room words lentSpeeds b mvs speeds queues (sym taken)))
+
+  pub start_accepted : {words' : List ℕ} {speeds' : List Float} → words' ≡ begin_words b mvs queues h.size words
+      → speeds' ≡ table (λ i. real (get_or speeds i 0)) h.size ++ drop h.size lentSpeeds
+      → Performs (start b mvs speeds queues) words lentSpeeds accepted words' speeds'
+  unfolding answer_of
+  start_accepted p q =
+      let file = begun_on.0 in
+      accepts (start b mvs speeds queues) words lentSpeeds (sym taken) refl
+      (rw is at p ∙ sym (start-words b mvs speeds queues file words lentSpeeds))
+      (rw is at q ∙ sym (start-speeds b mvs speeds queues file words lentSpeeds))
+
+pub ruleset start_call = (start_refused, begun_on, words_fit, speeds_fit, start_accepted)

@@ -4,12 +4,14 @@
 mod words; // words.rt: the words and speeds that it puts in
 
 ghost use Rattle.book.specs.Perform.{Performs};
-ghost use Rattle.book.specs.Calls.{start, verdict_says};
+ghost use Rattle.book.specs.Calls.{start};
+ghost use Rattle.book.specs.Question.{verdict_says};
 
-use book::Verdict;
+use laws::Refusal;
 
 // Begins a study on a network file: for each segment initial mv, speed in whole m/h and queue in mv. All ramps are open, signs dark,
 // flows and totals 0, slots empty, the run count 0.
+#[tactic(auto, using(crate::proofs::Beginning::start_call))]
 pub fn start(
     words: &mut [u64],
     speeds: &mut [f64],
@@ -17,16 +19,12 @@ pub fn start(
     mvs: &[u32],
     initial: &[u32],
     queues: &[u32],
-) -> Verdict
+) -> Result<(), Refusal>
     ensures { Performs (start file.now mvs.now initial.now queues.now) words.old speeds.old (verdict_says result) words.new speeds.new }
 {
-    let r = refusal::start::start_number(words, speeds, file, mvs, initial, queues);
-    if r != 0 {
-        return Verdict::Refused(r);
-    }
-    let h = network::head_of(file);
-    let n = h.size as usize;
+    refusal::start::check(words, speeds, file, mvs, initial, queues)?;
+    let n = network::head_of(file).size as usize;
     words::put_words(words, file, mvs, queues, n);
     words::put_speeds(speeds, initial, n);
-    Verdict::Accepted
+    Ok(())
 }

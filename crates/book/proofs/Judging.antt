@@ -1,23 +1,22 @@
 -- Where a study's cases stand, and which row says that it is not sound.
 use Prim.Native.Nat.{ℕ, ◌+◌, ◌*◌, ◌≤◌, ◌<◌}
 use mathlib.Core.Path.{◌≡◌, sym, ap, ◌∙◌}
-use mathlib.Core.Bool.{Bool, true, false, ◌||◌, not}
+use mathlib.Core.Bool.{Bool, true, false, ◌||◌}
 use mathlib.Core.List.{List}
 use native.Mathlib.Nat.{mul-le-mul_right, le_of_eq}
 use native.Mathlib.Omega.{arith}
-use lib.Dec.{ltb, eqb}
+use lib.Dec.{ltb}
 use lib.ListN.{length, length-take}
 use lib.Ieee.{Float}
 use borrow.Author.Tests.{lt-ltb, le-ltb}
-use Rattle.laws.specs.First.{first_of}
-use Rattle.laws.proofs.First.{row_applies, row_skipped, first_some, first_zero}
+use Rattle.laws.proofs.First.{row_applies, row_skipped}
 use Rattle.format.specs.Words.{head_in, entry_in, segment_in, kept_number}
 use Rattle.metanet.specs.Words.{net_of}
 use Rattle.metanet.proofs.InWords.{case_number_in}
 use Rattle.metanet.proofs.Ready.{CaseAt}
 use Rattle.metanet.proofs.SameNetwork.{case_number_from}
-use Rattle.book.specs.Arrangement.{case_word, case_speed, words_for, speeds_for, size_at, case_at, run_count_at, arrangement, arrangement_at}
-use Rattle.book.specs.Sound.{case_number_at, slot_number, cases_number, sound_number}
+use Rattle.book.specs.Arrangement.{case_word, case_speed, words_for, speeds_for, size_at, case_at}
+use Rattle.book.specs.Sound.{case_number_at, cases_number, sound_number}
 use Rattle.book.proofs.Laid.{Laid}
 
 module _ {words : List ℕ} {speeds : List Float} {n : ℕ} (laid : Laid words speeds n) where
@@ -39,23 +38,6 @@ module _ {words : List ℕ} {speeds : List Float} {n : ℕ} (laid : Laid words s
   case_judged k =
       ap (λ (m : ℕ). case_number_in words speeds (case_word m k) (case_speed m k) m) laid.size
       ∙ sym (case_number_from (head_in (net_of words)) (entry_in (net_of words)) (segment_in (net_of words)) laid.net (case_at words speeds k))
-
-  -- ---- the cases
-  abbrev pub words_bad : Bool
-  words_bad = ltb 1000000 (run_count_at words) || not (eqb (arrangement_at words) arrangement)
-
-  pub words-refused : words_bad ≡ true → 12 ≡ cases_number words speeds
-  unfolding cases_number
-  words-refused e = sym (row_applies _ _ _ e)
-
-  module _ (fine : words_bad ≡ false) where
-    pub live-refused : {r : ℕ} → r ≡ case_number_at words speeds 0 → (r ≡ 0 → ⊥) → r ≡ cases_number words speeds
-    unfolding cases_number
-    live-refused e some = e ∙ sym (row_skipped _ _ _ fine ∙ first_some _ _ (λ z. some (e ∙ z)))
-
-    pub slots_judged : {r : ℕ} → case_number_at words speeds 0 ≡ 0 → r ≡ first_of (λ k. slot_number words speeds (k + 1)) 6 → r ≡ cases_number words speeds
-    unfolding cases_number
-    slots_judged z e = e ∙ sym (row_skipped _ _ _ fine ∙ first_zero _ _ z)
 
 -- ---- the study
 

@@ -2,9 +2,7 @@
 use Rattle.std.specs.Prelude.{ℕ, ◌+◌, Bool, true, false, ◌&&◌, ◌||◌, not, List, [], ◌∷◌, ltb, eqb}
 use Rattle.format.specs.File.{network_of}
 use Rattle.metanet.specs.Line.{Item, item_steps}
-use Rattle.book.specs.declared.Verdict.{Verdict}
-use Rattle.book.specs.declared.Verdict.TheVariants as verdict
-use Rattle.book.specs.Question.{Question, Answer, refused, accepted}
+use Rattle.book.specs.Question.{Question}
 
 -- the arguments of each call; segments, cases and slots by the paper's numbers
 pub data Call : Type 0 where
@@ -16,11 +14,6 @@ pub data Call : Type 0 where
   recall : ℕ → Call
   drop_slot : ℕ → Call
   question : Question → Call
-
--- what the function of a call that is no question says
-abbrev pub verdict_says : Verdict → Answer
-verdict_says (verdict.Refused number) = refused number
-verdict_says verdict.Accepted = accepted
 
 -- ---- what a call is
 

@@ -1,19 +1,15 @@
 -- Questions to a study, which change nothing, and what calls answer.
-use Rattle.std.specs.Prelude.{ℕ, ◌-◌, Bool, not, List, [], ◌∷◌}
+use Rattle.std.specs.Prelude.{ℕ, ◌-◌, Bool, not, List, [], ◌∷◌, Option, Some, None, Result, Ok, Err}
 use Rattle.laws.specs.First.{outside, row}
+use Rattle.laws.specs.declared.Refusal.{Refusal}
+use Rattle.laws.specs.Refusal.{number}
 use Rattle.format.specs.Network.{Network}
 use Rattle.metanet.specs.Case.{Case}
 use Rattle.metanet.specs.Step.{ramp_at}
 use Rattle.metanet.specs.Report.{case_figures, segment_figures}
-use Rattle.metanet.specs.Drain.{never, in_steps, time_figures, drain_figures}
-use Rattle.book.specs.declared.CaseReport.{CaseReport}
-use Rattle.book.specs.declared.CaseReport.TheVariants as caseReport
-use Rattle.book.specs.declared.SegmentReport.{SegmentReport}
-use Rattle.book.specs.declared.SegmentReport.TheVariants as segmentReport
-use Rattle.book.specs.declared.DrainReport.{DrainReport}
-use Rattle.book.specs.declared.DrainReport.TheVariants as drainReport
-use Rattle.book.specs.declared.RunReport.{RunReport}
-use Rattle.book.specs.declared.RunReport.TheVariants as runReport
+use Rattle.metanet.specs.Drain.{DrainTime, never, in_steps, time_figures, drain_figures}
+use Rattle.book.specs.declared.CaseFigures.{CaseFigures}
+use Rattle.book.specs.declared.SegmentFigures.{SegmentFigures}
 
 -- about a case: its totals (Report), one named segment (a segment report), or how long the queue of a ramp takes to drain
 pub data CaseQuestion : Type 0 where
@@ -65,22 +61,32 @@ pub data Answer : Type 0 where
 abbrev pub number_of : Answer → ℕ
 number_of = elim [ refused number ↦ number | accepted ↦ 0 | figures xs ↦ 0 ]
 
--- what each function's answer says: steps, mv in segments, in queues, arrivals, exits, time
-abbrev pub case_says : CaseReport → Answer
-case_says (caseReport.Refused number) = refused number
-case_says (caseReport.Figures f) = figures (f.steps ∷ f.segments ∷ f.queues ∷ f.arrivals ∷ f.exits ∷ f.time ∷ [])
+-- what a function's answer says: the number of the refusal, or what its value says
+abbrev pub says : {A : Type 0} → (A → Answer) → Result A Refusal → Answer
+says value_says (Err why) = refused (number why)
+says value_says (Ok x) = value_says x
+
+-- of a call that is no question
+abbrev pub verdict_says : Result (Unit {0}) Refusal → Answer
+verdict_says = says (λ _. accepted)
+
+-- steps, mv in segments, in queues, arrivals, exits, time
+abbrev pub case_says : Result CaseFigures Refusal → Answer
+case_says = says (λ f. figures (f.steps ∷ f.segments ∷ f.queues ∷ f.arrivals ∷ f.exits ∷ f.time ∷ []))
 
 -- N, s, bits of v, w, last outflow, last release, R
-abbrev pub segment_says : SegmentReport → Answer
-segment_says (segmentReport.Refused number) = refused number
-segment_says (segmentReport.Figures f) = figures (f.count ∷ f.whole ∷ f.bits ∷ f.queue ∷ f.outflow ∷ f.release ∷ f.rate ∷ [])
+abbrev pub segment_says : Result SegmentFigures Refusal → Answer
+segment_says = says (λ f. figures (f.count ∷ f.whole ∷ f.bits ∷ f.queue ∷ f.outflow ∷ f.release ∷ f.rate ∷ []))
+
+-- how long a queue takes to drain: never, or in so many steps
+abbrev pub time_of : Option ℕ → DrainTime
+time_of None = never
+time_of (Some k) = in_steps k
 
 -- 1 where it never drains, else 0; the steps, 0 where it never does
-abbrev pub drain_says : DrainReport → Answer
-drain_says (drainReport.Refused number) = refused number
-drain_says drainReport.Never = figures (time_figures never)
-drain_says (drainReport.Steps k) = figures (time_figures (in_steps k))
+abbrev pub drain_says : Result (Option ℕ) Refusal → Answer
+drain_says = says (λ t. figures (time_figures (time_of t)))
 
-abbrev pub run_says : RunReport → Answer
-run_says (runReport.Refused number) = refused number
-run_says (runReport.Count runs) = figures (runs ∷ [])
+-- a run count, or how many bytes are written
+abbrev pub count_says : Result ℕ Refusal → Answer
+count_says = says (λ n. figures (n ∷ []))

@@ -1,13 +1,14 @@
 -- A run: the rows of a survey file, taken as single steps up to the first that is refused.
-use Rattle.std.specs.Prelude.{ℕ, zero, suc, ◌+◌, ◌<◌, ◌≡◌, not, List, [], ◌∷◌, ◌++◌, map, length, get_or, take, replicate, Float}
+use Rattle.std.specs.Prelude.{ℕ, zero, suc, ◌+◌, ◌<◌, ◌≡◌, not, List, [], ◌∷◌, ◌++◌, map, length, get_or, take, replicate, Float, Result}
 use Rattle.laws.specs.First.{row, if_accepted}
+use Rattle.laws.specs.declared.Refusal.{Refusal}
+use Rattle.laws.specs.Refusal.{stopped_by}
 use Rattle.survey_file.specs.File.{rows_in, survey_number}
 use Rattle.metanet.specs.Line.{stepped}
 use Rattle.book.specs.declared.Ran.{Ran}
-use Rattle.book.specs.declared.Ran.TheVariants as ran
 use Rattle.book.specs.Arrangement.{size_at}
 use Rattle.book.specs.Sound.{sound}
-use Rattle.book.specs.Question.{Answer, refused, accepted, figures, number_of}
+use Rattle.book.specs.Question.{Answer, refused, accepted, figures, number_of, says}
 use Rattle.book.specs.Calls.{Call, item}
 use Rattle.book.specs.Perform.{Arrays, lent, Outcome, unless, perform, Gives, after, answers}
 use Rattle.book.specs.Book.{Book, enter}
@@ -39,9 +40,9 @@ unfoldable pub perform_run : List ℕ → Arrays → Outcome Arrays
 unfolding run_refusal run_rows unless
 perform_run file a = unless (run_refusal file a) a (run_rows perform 0 (rows_in file) a)
 
-abbrev pub ran_says : Ran → Answer
-ran_says (ran.Refused number) = refused number
-ran_says (ran.Rows taken stopped) = figures (taken ∷ stopped ∷ [])
+-- rows taken, and the number that stopped it, 0 if none
+abbrev pub ran_says : Result Ran Refusal → Answer
+ran_says = says (λ ran. figures (ran.taken ∷ stopped_by ran.stopped ∷ []))
 
 -- the contract of a run
 abbrev pub PerformsRun : List ℕ → List ℕ → List Float → Answer → List ℕ → List Float → Type 0

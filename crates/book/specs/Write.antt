@@ -4,8 +4,6 @@ use Rattle.laws.specs.First.{row, if_accepted}
 use Rattle.laws.specs.BigEndian.{Bytes}
 use Rattle.format.specs.File.{file_size}
 use Rattle.format.specs.Written.{file_of}
-use Rattle.book.specs.declared.Written.{Written}
-use Rattle.book.specs.declared.Written.TheVariants as written
 use Rattle.book.specs.Arrangement.{network_at}
 use Rattle.book.specs.Sound.{sound}
 use Rattle.book.specs.Question.{Answer, refused, figures}
@@ -29,10 +27,6 @@ write_answer words speeds out =
     if_accepted (write_refusal words speeds out)
     (figures (file_size (network_at words).head ∷ []))
     (refused (write_refusal words speeds out))
-
-abbrev pub written_says : Written → Answer
-written_says (written.Refused number) = refused number
-written_says (written.Bytes size) = figures (size ∷ [])
 
 -- an accepted network writes back to the file's bytes: after a Start to which no refusal applies, and any later calls and runs none of
 -- which is an accepted Start, Write into a buffer that is long enough gives the bytes of the file; later bytes stay

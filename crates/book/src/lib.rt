@@ -1,12 +1,7 @@
 // The calls on a study: the types of their answers. specs/ says what each call does, proofs/ has the theorems; there is no code here.
 #![tactic(auto)]
 
-// What a call that changes the study answers.
-#[derive(Clone, Copy)]
-pub enum Verdict {
-    Refused(u64),
-    Accepted,
-}
+use laws::Refusal;
 
 // Figures of a case: steps taken; mv in segments, in queues, arrived and left; time spent in mv·s.
 #[derive(Clone, Copy)]
@@ -17,12 +12,6 @@ pub struct CaseFigures {
     pub arrivals: u64,
     pub exits: u64,
     pub time: u64,
-}
-
-#[derive(Clone, Copy)]
-pub enum CaseReport {
-    Refused(u64),
-    Figures(CaseFigures),
 }
 
 // Figures of a segment: N, the whole part s of v, the bits of v, queue w, last outflow, last release, R.
@@ -37,36 +26,9 @@ pub struct SegmentFigures {
     pub rate: u64,
 }
 
+// What a run comes to: how many rows it took, and what refused the next, if anything.
 #[derive(Clone, Copy)]
-pub enum SegmentReport {
-    Refused(u64),
-    Figures(SegmentFigures),
-}
-
-// How long a queue takes to drain: never, or in so many steps.
-#[derive(Clone, Copy)]
-pub enum DrainReport {
-    Refused(u64),
-    Never,
-    Steps(u64),
-}
-
-#[derive(Clone, Copy)]
-pub enum RunReport {
-    Refused(u64),
-    Count(u64),
-}
-
-// What Write answers: how many bytes it has written.
-#[derive(Clone, Copy)]
-pub enum Written {
-    Refused(u64),
-    Bytes(u64),
-}
-
-// What a run answers: how many rows it took, and the number that stopped it, 0 if none.
-#[derive(Clone, Copy)]
-pub enum Ran {
-    Refused(u64),
-    Rows { taken: u64, stopped: u64 },
+pub struct Ran {
+    pub taken: u64,
+    pub stopped: Option<Refusal>,
 }

@@ -24,6 +24,7 @@ pub const ARRANGEMENT: u64 = 3;
 pub const FIRST_CASE: usize = RUN_WORD + 16;
 
 // The sign of the state at the start of these words.
+#[tactic(auto, unfolding(metanet::specs::Words::sign_in))]
 fn sign_in(w: &[u64]) -> SignSetting
     requires { 16 ≤ length w.now }
     ensures { result ≡ sign_in w.now }
@@ -35,6 +36,7 @@ fn sign_in(w: &[u64]) -> SignSetting
 }
 
 // Its ramp.
+#[tactic(auto, unfolding(metanet::specs::Words::ramp_in))]
 pub fn ramp_in(w: &[u64]) -> Ramp
     requires { 16 ≤ length w.now }
     ensures { result ≡ ramp_in w.now }
@@ -52,6 +54,7 @@ pub fn ramp_in(w: &[u64]) -> Ramp
 }
 
 // Its flows.
+#[tactic(auto, unfolding(metanet::specs::Words::flows_in))]
 fn flows_in(w: &[u64]) -> Flows
     requires { 16 ≤ length w.now }
     ensures { result ≡ flows_in w.now }
@@ -63,6 +66,7 @@ fn flows_in(w: &[u64]) -> Flows
 }
 
 // The state at the start of these words.
+#[tactic(auto, unfolding(metanet::specs::Words::state_in))]
 pub fn state_of(w: &[u64], v: f64) -> SegmentState
     requires { 16 ≤ length w.now }
     ensures { result ≡ state_in w.now v }
@@ -84,39 +88,33 @@ pub fn is_on_ramp(kept: &[u64], i: usize) -> bool
     requires i_bound { i < (head_in kept.now).size }
     ensures { result ≡ on_ramp (head_in kept.now) (entry_in kept.now) (segment_in kept.now) i }
 {
-    if network_words::kept_origin(kept, i) == 1 {
-        return network_words::has_before(kept, i);
-    }
-    false
+    network_words::kept_origin(kept, i) == 1 && network_words::has_before(kept, i)
 }
 
 // The mv in segments and queues of a case whose counts and queues are at most 10^12 each.
+#[tactic(auto, unfolding(laws::specs::Sums::sum_of))]
 pub fn vehicles_in(words: &[u64], at: usize, n: usize) -> u64
     requires n_bound { (n ≤ 40) × (at + 16 * n ≤ length words.now) }
     requires by_index { (i : ℕ) → i < n → vehicles_at words.now at i ≤ 2000000000000 }
     ensures { (result ≡ sum_of (vehicles_at words.now at) n) × (result ≤ 2000000000000 * n) }
 {
-    let mut sum: u64 = 0;
-    let mut i: usize = 0;
-    while i < n {
+    let mut sum = 0;
+    for i in 0..n {
         let a = at + 16 * i;
-        let b = a + 1;
-        sum = sum + (words[a] + words[b]);
-        i += 1;
+        sum += words[a] + words[a + 1];
     }
     sum
 }
 
 // The sum of figure o of the n states that start at word at.
+#[tactic(auto, unfolding(laws::specs::Sums::sum_of))]
 pub fn column(words: &[u64], at: usize, o: usize, n: usize) -> u64
     requires { Summable words.now at o n }
     ensures { result ≡ sum_of (figure_at words.now at o) n }
 {
-    let mut sum: u64 = 0;
-    let mut i: usize = 0;
-    while i < n {
-        sum = sum + words[at + 16 * i + o];
-        i += 1;
+    let mut sum = 0;
+    for i in 0..n {
+        sum += words[at + 16 * i + o];
     }
     sum
 }

@@ -3,14 +3,13 @@ use Rattle.std.specs.Prelude.{ℕ, ◌≡◌, List, [], ◌∷◌, ◌++◌, ltb
 use Rattle.laws.specs.First.{row, first, if_accepted}
 use Rattle.format.specs.File.{curve_start}
 use Rattle.format.specs.Curve.{curve_call_number}
-use Rattle.format.specs.Place.{place_of}
+use Rattle.format.specs.Place.{Place, place_of}
 use Rattle.book.specs.Question.{Answer, refused, accepted, figures, number_of}
 use Rattle.book.specs.Calls.{Call}
 use Rattle.book.specs.Perform.{Arrays, Outcome, lent, perform}
 use Rattle.book.specs.Run.{perform_run}
-use Rattle.survey_file.specs.Read.{read_answer, read_list}
-use Rattle.survey_file.specs.declared.Survey.{Survey}
-use Rattle.survey_file.specs.declared.Survey.TheVariants as survey
+use Rattle.survey_file.specs.File.{rows_on}
+use Rattle.survey_file.specs.Read.{read_number, read_list}
 
 -- ---- an answer told with the lent words out
 
@@ -35,9 +34,13 @@ figures_unless number xs = if_accepted number (figures xs) (refused number)
 abbrev pub curve_place : List ℕ → ℕ → Answer
 curve_place b k = figures_unless (curve_call_number b k) (curve_start k ∷ 804 ∷ [])
 
--- where it is wrong: the number that refuses it, or 0, the part, the rule and the byte offset
+-- a place in it: the number that refuses it, or 0, the part, the rule and the byte offset
+abbrev pub place_figures : Place → List ℕ
+place_figures p = p.number ∷ p.part ∷ p.rule ∷ p.offset ∷ []
+
+-- where it is wrong
 abbrev pub file_place : List ℕ → Answer
-file_place b = let p = place_of b in figures (p.number ∷ p.part ∷ p.rule ∷ p.offset ∷ [])
+file_place b = figures (place_figures (place_of b))
 
 -- ---- a call on a study, with the words out lent for its figures: what it comes to is told. Accepted, it leaves both arrays so; refused,
 -- by 24 too, as they came
@@ -55,11 +58,11 @@ abbrev pub CalledRun : List ℕ → List ℕ → List Float → List ℕ → ℕ
 CalledRun file words speeds = Told (perform_run file (lent words speeds)) words speeds
 
 -- ---- the reader of survey files, with a list lent for the arrivals and the words out for the row count
-abbrev pub survey_says : Survey → Answer
-survey_says (survey.Refused number) = refused number
-survey_says (survey.Rows rows) = figures (rows ∷ [])
+
+abbrev pub rows_read : ℕ → List ℕ → List ℕ → Answer
+rows_read n file list = figures_unless (read_number n file list) (rows_on file ∷ [])
 
 pub record CalledRead (n : ℕ) (file list out : List ℕ) (r : ℕ) (list' out' : List ℕ) : Type 0 where
-  pub number : r ≡ told_number (survey_says (read_answer n file list)) out
-  pub figures_are : out' ≡ told_words (survey_says (read_answer n file list)) out
+  pub number : r ≡ told_number (rows_read n file list) out
+  pub figures_are : out' ≡ told_words (rows_read n file list) out
   pub list_is : list' ≡ if_accepted r (read_list n file list) list

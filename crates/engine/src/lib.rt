@@ -1,27 +1,42 @@
 // The C interface: include/engine.h declares these functions for C. A slice passes as a pointer and a length.
-#![tactic(auto)]
+#![tactic(auto, using(crate::proofs::Calling::interface))]
 
 mod report; // report.rt: figures put into lent words
 
 ghost use Rattle.std.specs.Prelude.{◌≡◌, not, []};
 ghost use Rattle.laws.specs.First.{row};
+ghost use Rattle.laws.specs.Refusal.{refused};
 ghost use Rattle.format.specs.File.{file_number};
 ghost use Rattle.format.specs.Curve.{curve_call_number};
 ghost use Rattle.survey_file.specs.Written.{write_number, written_survey};
 ghost use Rattle.metanet.specs.declared.Setting.TheVariants.{Open, Fixed, Alinea};
 ghost use Rattle.metanet.specs.Line.{signed, metered, stepped};
 ghost use Rattle.book.specs.Sound.{sound};
-ghost use Rattle.book.specs.Question.{totals, segment, drain, of_case, run_count, number_of};
-ghost use Rattle.book.specs.Calls.{start, item, hold, recall, drop_slot, question, verdict_says};
+ghost use Rattle.book.specs.Question.{totals, segment, drain, of_case, run_count, says, figures};
+ghost use Rattle.book.specs.Calls.{start, item, hold, recall, drop_slot, question};
 ghost use Rattle.book.specs.Write.{write_refusal, written_bytes};
 ghost use Rattle.engine.specs.Study.{told_number, told_words, curve_place, file_place, Called, CalledRead, CalledRun};
+
+use laws::Refusal;
+use metanet::Setting;
+use refusal::calls;
+
+// The number of what refuses a call, or 0.
+fn number_of(answer: Result<(), Refusal>) -> u64
+    ensures { result ≡ refused answer }
+{
+    match answer {
+        Ok(()) => 0,
+        Err(why) => u64::from(why),
+    }
+}
 
 // The number that refuses a network file, and 0 where it is accepted.
 #[unsafe(no_mangle)]
 pub extern "C" fn network_check(file: &[u8]) -> u64
     ensures { result ≡ file_number file.now }
 {
-    network::check(file)
+    number_of(network::check(file))
 }
 
 // The number that refuses curve k of a file, and 0 where nothing does.
@@ -29,21 +44,24 @@ pub extern "C" fn network_check(file: &[u8]) -> u64
 pub extern "C" fn network_curve_number(file: &[u8], k: u64) -> u64
     ensures { result ≡ curve_call_number file.now k }
 {
-    network::curve_number(file, k)
+    number_of(network::check_curve(file, k))
 }
 
-// Where curve k stands in the file: its byte offset into place[0] and its length into place[1].
+// Where curve k stands in the file: its byte offset and its length.
+fn curve_place(file: &[u8], k: u64) -> Result<[u64; 2], Refusal>
+    ensures { says figures result ≡ curve_place file.now k }
+{
+    network::check_curve(file, k)?;
+    Ok([16 + 804 * k, 804])
+}
+
+// The offset into place[0] and the length into place[1].
 #[unsafe(no_mangle)]
 pub extern "C" fn network_curve(file: &[u8], k: u64, place: &mut [u64]) -> u64
     ensures value { result ≡ told_number (curve_place file.now k) place.old }
     ensures place_after { place.new ≡ told_words (curve_place file.now k) place.old }
 {
-    let r = network::curve_number(file, k);
-    if r != 0 {
-        return r;
-    }
-    let two = [16 + 804 * k, 804];
-    report::put_figures(&two, place)
+    number_of(report::put(curve_place(file, k), place))
 }
 
 // Where a file is wrong: the number that refuses it, or 0, then part, rule and byte offset, into place[0] to place[3].
@@ -52,9 +70,7 @@ pub extern "C" fn network_place(file: &[u8], place: &mut [u64]) -> u64
     ensures value { result ≡ told_number (file_place file.now) place.old }
     ensures place_after { place.new ≡ told_words (file_place file.now) place.old }
 {
-    let p = places::place_of(file);
-    let four = [p.number, p.part as u64, p.rule, p.offset];
-    report::put_figures(&four, place)
+    number_of(report::put(Ok(places::place_of(file)), place))
 }
 
 // ---- a survey file
@@ -64,10 +80,10 @@ pub extern "C" fn network_place(file: &[u8], place: &mut [u64]) -> u64
 pub extern "C" fn survey_read(file: &[u8], n: u64, arrivals: &mut [u32], figures: &mut [u64]) -> u64
     ensures { CalledRead n file.now arrivals.old figures.old result arrivals.new figures.new }
 {
-    if figures.len() < 1 {
-        return report::no_room(survey::number(file, n));
+    if figures.is_empty() {
+        return number_of(survey::check(file, n).and(Err(Refusal::NoRoom)));
     }
-    report::put_rows(survey::read(file, n, arrivals), figures)
+    number_of(report::put(survey::read(file, n, arrivals), figures))
 }
 
 // The file of a list of arrivals, rows of n, from the buffer's first byte on; later bytes stay.
@@ -76,30 +92,17 @@ pub extern "C" fn survey_write(n: u64, arrivals: &[u32], out: &mut [u8]) -> u64
     ensures value { result ≡ write_number n arrivals.now out.old }
     ensures out_after { out.new ≡ written_survey n arrivals.now out.old }
 {
-    survey::write(n, arrivals, out)
+    number_of(survey::write(n, arrivals, out))
 }
 
 // ---- a study; docs/ARRANGEMENT.md says where it stands in the two arrays
-
-// The number that a verdict says, or 0.
-fn number_of(verdict: book::Verdict) -> u64
-    ensures { result ≡ number_of (verdict_says verdict) }
-{
-    match verdict {
-        book::Verdict::Refused(number) => number,
-        book::Verdict::Accepted => 0,
-    }
-}
 
 // 12 where the arrays do not hold a sound study, or 0.
 #[unsafe(no_mangle)]
 pub extern "C" fn study_sound(words: &[u64], speeds: &[f64]) -> u64
     ensures { result ≡ row (not (sound words.now speeds.now)) 12 0 }
 {
-    if sound::sound(words, speeds) {
-        return 0;
-    }
-    12
+    number_of(sound::check(words, speeds))
 }
 
 // Begins a study on a network file.
@@ -136,7 +139,7 @@ pub extern "C" fn study_sign(
 pub extern "C" fn study_meter_open(words: &mut [u64], speeds: &[f64], segment: u64) -> u64
     ensures { Called (item (metered segment Open)) words.old speeds.now [] result words.new speeds.now [] }
 {
-    number_of(study::meter(words, speeds, segment, metanet::Setting::Open))
+    number_of(study::meter(words, speeds, segment, Setting::Open))
 }
 
 #[unsafe(no_mangle)]
@@ -148,7 +151,7 @@ pub extern "C" fn study_meter_fixed(
 ) -> u64
     ensures { Called (item (metered segment (Fixed rate))) words.old speeds.now [] result words.new speeds.now [] }
 {
-    number_of(study::meter(words, speeds, segment, metanet::Setting::Fixed(rate)))
+    number_of(study::meter(words, speeds, segment, Setting::Fixed(rate)))
 }
 
 #[unsafe(no_mangle)]
@@ -163,7 +166,7 @@ pub extern "C" fn study_meter_alinea(
 ) -> u64
     ensures { Called (item (metered segment (Alinea target gain least interval))) words.old speeds.now [] result words.new speeds.now [] }
 {
-    let setting = metanet::Setting::Alinea {
+    let setting = Setting::Alinea {
         target,
         gain,
         least,
@@ -193,9 +196,9 @@ pub extern "C" fn study_run(
 {
     let short = figures.len() < 2;
     if short {
-        return report::no_room(refusal::calls::run_number(words, speeds, file));
+        return number_of(calls::check_run(words, speeds, file).and(Err(Refusal::NoRoom)));
     }
-    report::put_run(study::run(words, speeds, file), figures)
+    number_of(report::put(study::run(words, speeds, file), figures))
 }
 
 // The live case into a slot.
@@ -227,7 +230,7 @@ pub extern "C" fn study_drop(words: &mut [u64], speeds: &[f64], slot: u64) -> u6
 pub extern "C" fn study_report(words: &[u64], speeds: &[f64], k: u64, figures: &mut [u64]) -> u64
     ensures { Called (question (of_case k totals)) words.now speeds.now figures.old result words.now speeds.now figures.new }
 {
-    report::put_case(reports::report(words, speeds, k), figures)
+    number_of(report::put(reports::report(words, speeds, k), figures))
 }
 
 // Seven figures of segment i of case k.
@@ -241,7 +244,7 @@ pub extern "C" fn study_report_segment(
 ) -> u64
     ensures { Called (question (of_case k (segment i))) words.now speeds.now figures.old result words.now speeds.now figures.new }
 {
-    report::put_segment(reports::report_segment(words, speeds, k, i), figures)
+    number_of(report::put(reports::report_segment(words, speeds, k, i), figures))
 }
 
 // How long the queue at segment i of case k takes to drain: 1 where it never does, else 0, and the steps, into figures[0] and [1].
@@ -255,7 +258,7 @@ pub extern "C" fn study_drain(
 ) -> u64
     ensures { Called (question (of_case k (drain i))) words.now speeds.now figures.old result words.now speeds.now figures.new }
 {
-    report::put_drain(reports::drain(words, speeds, k, i), figures)
+    number_of(report::put(reports::drain(words, speeds, k, i), figures))
 }
 
 // The run count.
@@ -263,7 +266,7 @@ pub extern "C" fn study_drain(
 pub extern "C" fn study_run_count(words: &[u64], speeds: &[f64], figures: &mut [u64]) -> u64
     ensures { Called (question run_count) words.now speeds.now figures.old result words.now speeds.now figures.new }
 {
-    report::put_run_count(reports::run_count(words, speeds), figures)
+    number_of(report::put(reports::run_count(words, speeds), figures))
 }
 
 // Writes the study's network as a file from the buffer's first byte on; later bytes stay.
@@ -272,8 +275,5 @@ pub extern "C" fn study_write(words: &[u64], speeds: &[f64], out: &mut [u8]) -> 
     ensures value { result ≡ write_refusal words.now speeds.now out.old }
     ensures out_after { out.new ≡ written_bytes words.now speeds.now out.old }
 {
-    match reports::write(words, speeds, out) {
-        book::Written::Refused(number) => number,
-        book::Written::Bytes(_) => 0,
-    }
+    number_of(reports::write(words, speeds, out).and(Ok(())))
 }

@@ -1,112 +1,119 @@
 // Figures put into lent words.
-ghost use Rattle.std.specs.Prelude.{◌≡◌};
-ghost use Rattle.laws.specs.First.{first};
-ghost use Rattle.book.specs.Question.{figures, case_says, segment_says, drain_says, run_says};
-ghost use Rattle.book.specs.Run.{ran_says};
-ghost use Rattle.engine.specs.Study.{told_number, told_words, survey_says};
+ghost use Rattle.std.specs.Prelude.{◌≡◌, ◌≤◌, List, [], ◌∷◌, ℕ};
+ghost use Rattle.laws.specs.Refusal.{refused, stopped_by};
+ghost use Rattle.metanet.specs.Drain.{time_figures};
+ghost use Rattle.book.specs.Question.{figures, says, time_of};
+ghost use Rattle.places.specs.Told.{told_place};
+ghost use Rattle.engine.specs.Study.{place_figures, told_number, told_words};
 
-// The number of a call whose figures have no room: 24 where nothing else refuses it.
-pub(crate) fn no_room(number: u64) -> u64
-    ensures { result ≡ first number 24 }
-{
-    if number != 0 {
-        return number;
-    }
-    24
+use book::{CaseFigures, Ran, SegmentFigures};
+use laws::Refusal;
+use places::Place;
+
+// What a call answers, as N words.
+pub(crate) trait Figures<const N: usize> {
+    ghost figures: { Self → List ℕ };
+
+    fn figures(self) -> [u64; N]
+        ensures { result ≡ figures self };
 }
 
-// 24 where out is shorter than the values, with out as it came, or 0.
-pub(crate) fn put_figures(values: &[u64], out: &mut [u64]) -> u64
-    ensures value { result ≡ told_number (figures values.now) out.old }
-    ensures out_after { out.new ≡ told_words (figures values.now) out.old }
-{
-    if out.len() < values.len() {
-        return 24;
+impl Figures<6> for CaseFigures {
+    ghost figures = { λ f. f.steps ∷ f.segments ∷ f.queues ∷ f.arrivals ∷ f.exits ∷ f.time ∷ [] };
+
+    fn figures(self) -> [u64; 6] {
+        [
+            self.steps,
+            self.segments,
+            self.queues,
+            self.arrivals,
+            self.exits,
+            self.time,
+        ]
     }
-    arrays::put_words(values, out);
-    0
 }
 
-pub(crate) fn put_case(report: book::CaseReport, out: &mut [u64]) -> u64
-    ensures value { result ≡ told_number (case_says report) out.old }
-    ensures out_after { out.new ≡ told_words (case_says report) out.old }
-{
-    match report {
-        book::CaseReport::Refused(number) => number,
-        book::CaseReport::Figures(f) => {
-            let six = [f.steps, f.segments, f.queues, f.arrivals, f.exits, f.time];
-            put_figures(&six, out)
+impl Figures<7> for SegmentFigures {
+    ghost figures = { λ f. f.count ∷ f.whole ∷ f.bits ∷ f.queue ∷ f.outflow ∷ f.release ∷ f.rate ∷ [] };
+
+    fn figures(self) -> [u64; 7] {
+        [
+            self.count,
+            self.whole,
+            self.bits,
+            self.queue,
+            self.outflow,
+            self.release,
+            self.rate,
+        ]
+    }
+}
+
+// How many steps a queue takes to drain, if it ever does.
+impl Figures<2> for Option<u64> {
+    ghost figures = { λ t. time_figures (time_of t) };
+
+    fn figures(self) -> [u64; 2] {
+        match self {
+            None => [1, 0],
+            Some(steps) => [0, steps],
         }
     }
 }
 
-pub(crate) fn put_segment(report: book::SegmentReport, out: &mut [u64]) -> u64
-    ensures value { result ≡ told_number (segment_says report) out.old }
-    ensures out_after { out.new ≡ told_words (segment_says report) out.old }
-{
-    match report {
-        book::SegmentReport::Refused(number) => number,
-        book::SegmentReport::Figures(f) => {
-            let seven = [
-                f.count, f.whole, f.bits, f.queue, f.outflow, f.release, f.rate,
-            ];
-            put_figures(&seven, out)
+// A count.
+impl Figures<1> for u64 {
+    ghost figures = { λ n. n ∷ [] };
+
+    fn figures(self) -> [u64; 1] {
+        [self]
+    }
+}
+
+impl Figures<2> for Ran {
+    ghost figures = { λ ran. ran.taken ∷ stopped_by ran.stopped ∷ [] };
+
+    fn figures(self) -> [u64; 2] {
+        [self.taken, self.stopped.map_or(0, u64::from)]
+    }
+}
+
+// The bytes at which something stands: its offset and its length.
+impl Figures<2> for [u64; 2] {
+    ghost figures = { λ place. place };
+
+    fn figures(self) -> [u64; 2] {
+        self
+    }
+}
+
+// Where a network file is wrong; zeros where it is accepted.
+impl Figures<4> for Option<Place> {
+    ghost figures = { λ p. place_figures (told_place p) };
+
+    fn figures(self) -> [u64; 4] {
+        match self {
+            None => [0; 4],
+            Some(p) => [u64::from(p.refusal), u64::from(p.part), p.rule, p.offset],
         }
     }
 }
 
-pub(crate) fn put_drain(report: book::DrainReport, out: &mut [u64]) -> u64
-    ensures value { result ≡ told_number (drain_says report) out.old }
-    ensures out_after { out.new ≡ told_words (drain_says report) out.old }
+// Puts what a call answers over the first words of out; later words stay. NoRoom where out is too short: like any other refusal, that
+// leaves out as it came.
+#[tactic(auto, unfolding(laws::specs::First::row, laws::specs::First::first, laws::specs::First::if_accepted, crate::specs::Study::told_number, crate::specs::Study::told_words,),)]
+pub(crate) fn put<const N: usize, T: Figures<N>>(
+    answer: Result<T, Refusal>,
+    out: &mut [u64],
+) -> Result<(), Refusal>
+    requires { N ≤ 7 }
+    ensures value { refused result ≡ told_number (says (λ x. figures (T.figures x)) answer) out.old }
+    ensures out_after { out.new ≡ told_words (says (λ x. figures (T.figures x)) answer) out.old }
 {
-    match report {
-        book::DrainReport::Refused(number) => number,
-        book::DrainReport::Never => {
-            let two = [1, 0];
-            put_figures(&two, out)
-        }
-        book::DrainReport::Steps(steps) => {
-            let two = [0, steps];
-            put_figures(&two, out)
-        }
+    let figures = answer?.figures();
+    if out.len() < N {
+        return Err(Refusal::NoRoom);
     }
-}
-
-pub(crate) fn put_run_count(report: book::RunReport, out: &mut [u64]) -> u64
-    ensures value { result ≡ told_number (run_says report) out.old }
-    ensures out_after { out.new ≡ told_words (run_says report) out.old }
-{
-    match report {
-        book::RunReport::Refused(number) => number,
-        book::RunReport::Count(runs) => {
-            let one = [runs];
-            put_figures(&one, out)
-        }
-    }
-}
-
-pub(crate) fn put_rows(report: survey_file::Survey, out: &mut [u64]) -> u64
-    ensures value { result ≡ told_number (survey_says report) out.old }
-    ensures out_after { out.new ≡ told_words (survey_says report) out.old }
-{
-    match report {
-        survey_file::Survey::Refused(number) => number,
-        survey_file::Survey::Rows(rows) => {
-            let one = [rows];
-            put_figures(&one, out)
-        }
-    }
-}
-
-pub(crate) fn put_run(report: book::Ran, out: &mut [u64]) -> u64
-    ensures value { result ≡ told_number (ran_says report) out.old }
-    ensures out_after { out.new ≡ told_words (ran_says report) out.old }
-{
-    match report {
-        book::Ran::Refused(number) => number,
-        book::Ran::Rows { taken, stopped } => {
-            let two = [taken, stopped];
-            put_figures(&two, out)
-        }
-    }
+    out[..N].copy_from_slice(&figures);
+    Ok(())
 }

@@ -1,13 +1,13 @@
 -- A curve that is asked for.
 use Prim.Native.Nat.{ℕ, ◌+◌, ◌*◌, ◌≤◌, ◌<◌}
 use mathlib.Core.List.{List, []}
-use mathlib.Core.Path.{◌≡◌, ◌∙◌}
+use mathlib.Core.Path.{◌≡◌}
 use native.Mathlib.Omega.{arith}
 use lib.ListN.{length}
-use borrow.Author.Tests.{le-leb, lt-leb, leb-false}
+use borrow.Author.Tests.{leb-false}
 use Rattle.laws.specs.Lists.{part}
 use Rattle.laws.specs.BigEndian.{u32_at}
-use Rattle.laws.proofs.First.{row_passed, row_applies, row_skipped, first_some, first_zero, first_zero_left, first_zero_right, when_accepted, when_refused}
+use Rattle.laws.proofs.First.{row_passed, first_zero_left, first_zero_right, when_accepted, when_refused}
 use Rattle.laws.proofs.Lists.{length_part}
 use Rattle.laws.proofs.BigEndian.{part_u32}
 use Rattle.format.specs.File.{head_of, file_number, curve_start, entry_at}
@@ -15,18 +15,6 @@ use Rattle.format.specs.Curve.{curve_call_number, curve_bytes}
 use Rattle.format.proofs.File.{FileAccepted, file-accepted}
 
 module _ (b : List ℕ) (k : ℕ) where
-  pub curve_call_file : (file_number b ≡ 0 → ⊥) → curve_call_number b k ≡ file_number b
-  unfolding curve_call_number
-  curve_call_file n = first_some _ _ n
-
-  pub curve_call_none : file_number b ≡ 0 → (head_of b).curves ≤ k → curve_call_number b k ≡ 10
-  unfolding curve_call_number
-  curve_call_none z l = first_zero _ _ z ∙ row_applies _ _ _ (le-leb _ _ l)
-
-  pub curve_call_some : file_number b ≡ 0 → k < (head_of b).curves → curve_call_number b k ≡ 0
-  unfolding curve_call_number
-  curve_call_some z l = first_zero _ _ z ∙ row_skipped _ _ _ (lt-leb _ _ l)
-
   pub curve_call_accepted : curve_call_number b k ≡ 0 → FileAccepted b × (k < (head_of b).curves)
   unfolding curve_call_number
   curve_call_accepted e =

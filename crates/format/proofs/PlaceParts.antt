@@ -12,9 +12,8 @@ use Rattle.laws.proofs.First.{row_skipped, row_passed, row_later}
 use Rattle.laws.proofs.Tests.{or_left, or_right}
 use Rattle.format.specs.Network.{too_fast, followers_bad, record_rows}
 use Rattle.format.specs.File.{head_of, file_size, entry_on, segment_on, record_start, record_number, file_number}
-use Rattle.format.specs.Place.{head_rules, head_fields, bad_entry, record_rules, record_fields, follower_rules, follower_fields, bad_record, bad_origin, place, place_of}
+use Rattle.format.specs.Place.{head_rules, head_fields, bad_entry, record_rules, record_fields, follower_rules, follower_fields, bad_record, bad_origin, place, place_of, Place}
 use Rattle.format.specs.Placed.{mark_rules}
-use Rattle.format.specs.declared.Place.{Place}
 use Rattle.format.proofs.Numbers.{number_is}
 use Rattle.format.proofs.Broken.{record_kept, record_passed}
 

@@ -16,9 +16,8 @@ use Rattle.laws.proofs.Search.{first_in_table, where_found, where_below}
 use Rattle.format.specs.Network.{rising, curve_number, origin_number}
 use Rattle.format.specs.File.{head_of, entry_on, segment_on, curve_in, curves_number, record_number, records_number, origins_number, file_number}
 use Rattle.format.proofs.File.{head-accepted}
-use Rattle.format.specs.Place.{head_rules, entry_bad, bad_entry, bad_record, bad_origin, record_rules, follower_rules, place_of}
+use Rattle.format.specs.Place.{head_rules, entry_bad, bad_entry, bad_record, bad_origin, record_rules, follower_rules, place_of, Place}
 use Rattle.format.proofs.PlaceParts.{part_of, rule_of, head_offset, offset_of, place-parts}
-use Rattle.format.specs.declared.Place.{Place}
 use Rattle.format.specs.Placed.{Placed, mark_rules}
 use Rattle.format.proofs.Numbers.{number-most, file-parts}
 use Rattle.format.proofs.Broken.{mark_broken, head_broken, record_broken, follower_broken}

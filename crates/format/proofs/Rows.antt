@@ -175,27 +175,13 @@ on_chain_following h i s e q = same_following_lem _ _ (not-false _ (and_false (e
 
 -- ---- all rows, of a network that is given by its head, entries and segments
 
--- which of them refuses
-module _ (h : Head) (entry : ℕ → ℕ → ℕ) (segment : ℕ → Segment) where
-  pub rows_version : version_bad h ≡ true → rows_number h entry segment ≡ 3
+-- where head and curves are accepted, the rows after them say it
+module _ (h : Head) (entry : ℕ → ℕ → ℕ) (segment : ℕ → Segment) (v : version_bad h ≡ false) (e : head_bad h ≡ false) where
+  pub rows_rest :
+      first_of (λ k. curve_number (entry k)) h.curves ≡ 0
+      → rows_number h entry segment ≡ first (first_of (segment_number h entry segment) h.size) (first_of (origin_number segment h.size) h.size)
   unfolding rows_number
-  rows_version e = row_applies _ _ _ e
-
-  module _ (v : version_bad h ≡ false) where
-    pub rows_head : head_bad h ≡ true → rows_number h entry segment ≡ 4
-    unfolding rows_number
-    rows_head e = row_skipped _ _ _ v ∙ row_applies _ _ _ e
-
-    module _ (e : head_bad h ≡ false) where
-      pub rows_curves : (first_of (λ k. curve_number (entry k)) h.curves ≡ 0 → ⊥) → rows_number h entry segment ≡ first_of (λ k. curve_number (entry k)) h.curves
-      unfolding rows_number
-      rows_curves n = row_skipped _ _ _ v ∙ row_skipped _ _ _ e ∙ first_some _ _ n
-
-      pub rows_rest :
-          first_of (λ k. curve_number (entry k)) h.curves ≡ 0
-          → rows_number h entry segment ≡ first (first_of (segment_number h entry segment) h.size) (first_of (origin_number segment h.size) h.size)
-      unfolding rows_number
-      rows_rest z = row_skipped _ _ _ v ∙ row_skipped _ _ _ e ∙ first_zero _ _ z
+  rows_rest z = row_skipped _ _ _ v ∙ row_skipped _ _ _ e ∙ first_zero _ _ z
 
 -- what acceptance says of a segment
 module _ (h : Head) (entry : ℕ → ℕ → ℕ) (segment : ℕ → Segment) (i : ℕ) (z : segment_number h entry segment i ≡ 0) where

@@ -7,7 +7,14 @@ use Rattle.format.specs.declared.Head.{Head}
 use Rattle.format.specs.declared.Following.{Following}
 use Rattle.format.specs.Network.{head_tests, segment_tests, share_tests, not_higher, follower_tests, origin_number}
 use Rattle.format.specs.File.{mark, head_of, file_size, entry_on, segment_on, record_start, record_number, file_number}
-use Rattle.format.specs.declared.Place.{Place}
+
+-- the number that refuses the file, or 0; the curve (6) or the record (7, 8, 27, 28); the rule of the row that is broken (4, 7, 27) or the
+-- entry (6); each counted from 0; and the byte offset
+pub record Place : Type 0 where
+  pub number : ℕ
+  pub part : ℕ
+  pub rule : ℕ
+  pub offset : ℕ
 
 -- 4: the rules of the head, its fields as row 4 has them, then its bytes that are zero; and where the field of each stands
 abbrev pub head_rules : List ℕ → List Bool

@@ -1,6 +1,9 @@
 // The network file: its types. specs/ says what the file means, proofs/ has the theorems about it; there is no code here.
 #![tactic(auto)]
 
+// These structs hold the numbers as a file or words of any content have them, 0 or 1 for an origin and 0 for none that follows: the rows
+// judge them.
+
 // The numbers of the head: the version, the step T in seconds, the number of segments n, the number of curves c, then τ in seconds,
 // ν in km²/h, κ in veh/km/lane and δ in thousandths.
 #[derive(Clone, Copy)]
@@ -17,7 +20,7 @@ pub struct Head {
 
 // Where vehicles go on from a segment: the number of its first and of its second following segment, 0 for none, and the share to the
 // first in thousandths.
-#[derive(Clone, Copy)]
+#[derive(Clone, Copy, PartialEq, Eq)]
 pub struct Following {
     pub first: u64,
     pub second: u64,
@@ -38,14 +41,4 @@ pub struct Segment {
     pub exit: u64,
     pub most: u64,
     pub following: Following,
-}
-
-// The number that refuses the file, or 0; the curve (6) or the record (7, 8, 27, 28); the rule of the row that is broken (4, 7, 27) or
-// the entry (6); each counted from 0; and the byte offset.
-#[derive(Clone, Copy)]
-pub struct Place {
-    pub number: u64,
-    pub part: u32,
-    pub rule: u64,
-    pub offset: u64,
 }

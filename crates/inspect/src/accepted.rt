@@ -1,75 +1,68 @@
 // What an accepted file holds.
-use crate::{followers, print, record};
+use crate::followers;
 use arrays::number;
+use format::{Head, Segment};
+use std::io;
 
 // The version is told where it is not 1, the chain.
-fn head(h: format::Head) {
-    print::say(b"accepted: ");
+fn tell_head(rt: &impl Print, h: Head) -> io::Result<()> {
+    print!(rt; "accepted: ")?;
     if h.version != 1 {
-        print::told(b"version ", h.version, b", ");
+        print!(rt; "version {}, ", h.version)?;
     }
-    print::told(b"T ", h.step, b" s");
-    print::told(b", n ", h.size, b"");
-    print::told(b", curves ", h.curves, b"");
-    print::told(b", tau ", h.tau, b" s");
-    print::told(b", nu ", h.nu, b" km2/h");
-    print::told(b", kappa ", h.kappa, b" veh/km/lane");
-    print::told(b", delta ", h.delta, b" thousandths\n");
+    print!(rt;
+        "T {} s, n {}, curves {}, tau {} s, ",
+        h.step, h.size, h.curves, h.tau
+    )?;
+    println!(rt;
+        "nu {} km2/h, kappa {} veh/km/lane, delta {} thousandths",
+        h.nu, h.kappa, h.delta
+    )
 }
 
-fn ramps(s: format::Segment) {
+fn tell_ramps(rt: &impl Print, s: Segment) -> io::Result<()> {
     if s.origin == 1 {
-        print::told(b", origin of at most ", s.most, b" mv a step");
+        print!(rt; ", origin of at most {} mv a step", s.most)?;
     }
     if 0 < s.exit {
-        print::told(b", exit of ", s.exit, b" thousandths");
+        print!(rt; ", exit of {} thousandths", s.exit)?;
     }
+    Ok(())
 }
 
-fn segment(file: &[u8], i: u32) {
-    let h = network::head_of(file);
+fn tell_segment(rt: &impl Print, file: &[u8], i: u32) -> io::Result<()> {
+    let number = u64::from(i) + 1;
     let s = network::segment_of(file, i);
-    record::which(i);
-    print::told(b": ", s.metres, b" m");
-    print::told(b", ", s.lanes, b" lanes");
-    print::told(b", curve ", s.curve, b"");
-    print::told(b", C ", s.critical, b"");
-    print::told(b", J ", s.jam, b"");
-    ramps(s);
-    if h.version != 1 {
-        followers::summary(s.following);
+    print!(rt;
+        "segment {number}: {} m, {} lanes, curve {}, ",
+        s.metres, s.lanes, s.curve
+    )?;
+    print!(rt; "C {}, J {}", s.critical, s.jam)?;
+    tell_ramps(rt, s)?;
+    if network::head_of(file).version != 1 {
+        followers::summary(rt, s.following)?;
     }
-    print::say(b"\n");
+    println!(rt)
 }
 
-fn curve(file: &[u8], k: u32) {
-    print::told(b"curve ", k as u64, b": ");
-    print::told(
-        b"from ",
-        network::entry_of(file, k, 0),
-        b" m/h at density 0",
-    );
-    print::told(
-        b" to ",
-        network::entry_of(file, k, 200),
-        b" m/h at density 200\n",
-    );
-}
-
-fn curves(file: &[u8], c: u32) {
+fn tell_curves(rt: &impl Print, file: &[u8], c: u32) -> io::Result<()> {
     for k in 0..c {
-        curve(file, k);
+        let first = network::entry_of(file, k, 0);
+        let last = network::entry_of(file, k, 200);
+        println!(rt; "curve {k}: from {first} m/h at density 0 to {last} m/h at density 200")?;
     }
+    Ok(())
 }
 
-fn segments(file: &[u8], n: u32) {
+fn tell_segments(rt: &impl Print, file: &[u8], n: u32) -> io::Result<()> {
     for i in 0..n {
-        segment(file, i);
+        tell_segment(rt, file, i)?;
     }
+    Ok(())
 }
 
-pub(crate) fn summary(file: &[u8]) {
-    head(network::head_of(file));
-    curves(file, number::byte_at(file, 7) as u32);
-    segments(file, number::byte_at(file, 6) as u32);
+pub(crate) fn summary(rt: &impl Print, file: &[u8]) -> io::Result<()> {
+    tell_head(rt, network::head_of(file))?;
+    tell_curves(rt, file, number::byte_at(file, 7) as u32)?;
+    tell_segments(rt, file, number::byte_at(file, 6) as u32)
 }

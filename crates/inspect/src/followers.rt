@@ -1,53 +1,50 @@
-// What follows a segment, in version 2, and the rules of rows 27 and 28.
-use crate::{print, record};
+// What follows a segment, in version 2, and the rules of row 27, numbers as C is told them, and of row 28.
 use format::Following;
+use std::io;
 
 // The following segments of an accepted file, and the share to the first.
-pub(crate) fn summary(f: Following) {
+pub(crate) fn summary(rt: &impl Print, f: Following) -> io::Result<()> {
     if f.first == 0 {
-        print::say(b", followed by none");
-        return;
+        return print!(rt; ", followed by none");
     }
     if f.second == 0 {
-        print::told(b", followed by segment ", f.first, b"");
-        return;
+        return print!(rt; ", followed by segment {}", f.first);
     }
-    print::told(b", followed by segments ", f.first, b"");
-    print::told(b" and ", f.second, b"");
-    print::told(b", ", f.share, b" thousandths to the first");
+    print!(rt; ", followed by segments {} and {}", f.first, f.second)?;
+    print!(rt; ", {} thousandths to the first", f.share)
 }
 
-fn right(i: u32, n: u64, f: Following, rule: u64) {
+// What the follower of segment i, of n, must be that breaks a rule.
+fn tell_right(rt: &impl Print, i: u32, n: u64, f: Following, rule: u64) -> io::Result<()> {
     match rule {
-        0 => print::told(b"above the segment's own number, ", i as u64 + 1, b""),
-        1 => print::told(b"at most the number of segments, ", n, b""),
-        2 => print::say(b"0 without a first"),
-        _ => print::told(b"another than the first, ", f.first, b""),
+        0 => print!(rt; "above the segment's own number, {}", u64::from(i) + 1),
+        1 => print!(rt; "at most the number of segments, {n}"),
+        2 => print!(rt; "0 without a first"),
+        _ => print!(rt; "another than the first, {}", f.first),
     }
 }
 
 // The first or the second following segment of segment i, and which rule it breaks; it stands at place at.
-pub(crate) fn tell(file: &[u8], i: u32, rule: u64, at: u64) {
-    let h = network::head_of(file);
-    let s = network::segment_of(file, i);
-    let f = s.following;
-    record::which(i);
+pub(crate) fn tell(rt: &impl Print, file: &[u8], i: u32, rule: u64, at: u64) -> io::Result<()> {
+    let number = u64::from(i) + 1;
+    let f = network::segment_of(file, i).following;
     if at == network::record_start(file, i) + 16 {
-        print::told(b", first following segment: ", f.first, b"");
+        print!(rt;
+            "segment {number}, first following segment: {}, must be ",
+            f.first
+        )?;
     } else {
-        print::told(b", second following segment: ", f.second, b"");
+        print!(rt;
+            "segment {number}, second following segment: {}, must be ",
+            f.second
+        )?;
     }
-    print::say(b", must be ");
-    right(i, h.size, f, rule);
+    tell_right(rt, i, network::head_of(file).size, f, rule)
 }
 
 // Row 28.
-pub(crate) fn tell_origin(file: &[u8], i: u32) {
-    let s = network::segment_of(file, i);
-    record::which(i);
-    print::told(
-        b", origin: ",
-        s.origin,
-        b", must be 1 where no segment goes on to this one",
-    );
+pub(crate) fn tell_origin(rt: &impl Print, file: &[u8], i: u32) -> io::Result<()> {
+    let number = u64::from(i) + 1;
+    let origin = network::segment_of(file, i).origin;
+    print!(rt; "segment {number}, origin: {origin}, must be 1 where no segment goes on to this one")
 }

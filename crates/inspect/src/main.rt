@@ -2,22 +2,24 @@
 // holds. The place is that of the crate `places`; here it is only put into words.
 #![tactic(auto)]
 
-mod print; // print.rt: words and numbers on standard output
 mod head; // head.rt: the fields of the head and their ranges
 mod record; // record.rt: the fields of a record and their ranges
 mod followers; // followers.rt: what follows a segment
 mod refused; // refused.rt: what refuses a file, and where
 mod accepted; // accepted.rt: what an accepted file holds
 
-// A file that fills the buffer is longer than any that is accepted: the rest of it would change neither number nor place.
-fn main() {
-    let mut buffer = io::large_buffer();
-    let n = io::read_full(0, &mut buffer);
-    let file = &buffer[..n];
-    let p = places::place_of(file);
-    if p.number == 0 {
-        accepted::summary(file);
-    } else {
-        refused::tell(file, p);
+use std::io;
+use std::io::Read;
+
+// So many bytes are read: no accepted file has as many, and those after them would change neither refusal nor place.
+const MOST_READ: usize = 65536;
+
+fn main(rt: HostRuntime) -> io::Result<()> {
+    let mut bytes = Vec::new(rt.alloc());
+    rt.reader().take(MOST_READ as u64).read_to_end(&mut bytes)?;
+    let file = bytes.as_slice();
+    match places::place_of(file) {
+        None => accepted::summary(&rt, file),
+        Some(place) => refused::tell(&rt, file, place),
     }
 }

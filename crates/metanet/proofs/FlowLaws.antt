@@ -1,5 +1,5 @@
 -- R + q for a q that is not above 0.
-use Prim.Native.Nat.{ℕ, zero, suc, ◌-◌, ◌≤◌}
+use Prim.Native.Nat.{ℕ, zero, suc, ◌-◌}
 use mathlib.Core.Path.{◌≡◌, refl}
 use native.Mathlib.Omega.{arith}
 use lib.IntN.{pos, neg_ℤ}
@@ -8,6 +8,3 @@ use Rattle.metanet.specs.Flow.{moved}
 pub moved_down : (r k : ℕ) → moved r (neg_ℤ (pos k)) ≡ r - k
 moved_down r zero = omega arith
 moved_down r (suc k) = refl
-
-pub moved_none : (r k : ℕ) → r ≤ k → moved r (neg_ℤ (pos k)) ≡ 0
-moved_none r k h = rw moved_down (omega arith)

@@ -10,7 +10,7 @@ use Rattle.laws.specs.Real.{real, ◌⊘◌}
 use Rattle.format.specs.declared.Head.{Head}
 use Rattle.format.specs.declared.Following.{Following}
 use Rattle.format.specs.declared.Segment.{Segment}
-use Rattle.format.proofs.Accepted.{HeadWithin, CurveWithin, RowsWithin}
+use Rattle.format.proofs.Accepted.{RowsWithin}
 use Rattle.format.specs.Words.{head_in, entry_in, segment_in}
 use Rattle.metanet.specs.declared.SignSetting.{SignSetting}
 use Rattle.metanet.specs.declared.Ramp.{Ramp}
@@ -144,15 +144,6 @@ neighbours_in net rest h i s r e =
       want = desired_speed (entry_in net s.curve) s r;
       bound = origin_bound (eqb e.segments 0) h (entry_in net s.curve) s r;
     }
-
-pub record NeighboursOk (net rest : List ℕ) (h : Head) (i : ℕ) (s : Segment) (r : SegmentState) (e : Entry) : Type 0 where
-  pub long : 2560 ≤ length net
-  pub head : HeadWithin h
-  pub ahead : AheadOk net rest i s.following
-  pub entry : e.outflows ≤ 100000000000000
-  pub segment : SegmentOk h s (entry_in net s.curve 0)
-  pub curve : CurveWithin (entry_in net s.curve)
-  pub state : StateOk s (entry_in net s.curve 0) r
 
 unfoldable pub new_state_in : List ℕ → List ℕ → Float → ℕ → ℕ → ℕ → Entry → SegmentState
 new_state_in net rest v d i t e =

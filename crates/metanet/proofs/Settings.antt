@@ -25,20 +25,6 @@ module _ (m : Bool) (q : ℕ) (r : Ramp) where
   unfolding setting_bad
   is_alinea may e = simp (may, e)
 
-  pub is_unknown : (r.kind ≡ open_kind → ⊥) → (r.kind ≡ fixed_kind → ⊥) → (r.kind ≡ alinea_kind → ⊥) → setting_bad m q r ≡ true
-  unfolding setting_bad
-  is_unknown o f a = simp (ne_eqb _ _ o, ne_eqb _ _ f, ne_eqb _ _ a)
-
-  -- where there is no ramp, all but open
-  pub no_ramp_lem : m ≡ false → (r.kind ≡ open_kind → ⊥) → setting_bad m q r ≡ true
-  unfolding setting_bad
-  no_ramp_lem e other = simp (e, ne_eqb _ _ other) (go (eqb r.kind fixed_kind) (eqb r.kind alinea_kind))
-    where
-      go : (a b : Bool) → cond a true (cond b true true) ≡ true
-      go true b = refl
-      go false true = refl
-      go false false = refl
-
 -- ---- what one that is not bad says
 
 module _ (m : Bool) (q : ℕ) (r : Ramp) (z : setting_bad m q r ≡ false) {P : Type 0} where

@@ -1,6 +1,8 @@
 // A case and one METANET step with ALINEA ramps: their types. specs/ says what they mean, proofs/ has the theorems; there is no code here.
 #![tactic(auto)]
 
+// What stands in words is read into these structs as it is, a kind as a number and 0 for none: words may hold anything, and are judged so.
+
 // What a sign is set to: the limit in km/h, 0 where it is dark; compliance in thousandths with 500 added, 0 where it is dark.
 #[derive(Clone, Copy)]
 pub struct SignSetting {
@@ -74,7 +76,7 @@ pub struct Old {
     pub after: f64,
 }
 
-// A sign is dark, or shows a speed in m/h.
+// A sign is dark, or shows a speed in m/h: the paper's own form for it.
 #[derive(Clone, Copy)]
 pub enum Sign {
     Dark,

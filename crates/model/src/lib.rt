@@ -1,4 +1,5 @@
-// One METANET step with ALINEA ramps over the lent words and speeds.
+// One METANET step with ALINEA ramps over the lent words and speeds, which stay two parameters: both are written, and each clause is about
+// one of them.
 #![tactic(auto)]
 
 mod states; // states.rt: all segments of a case, in place

@@ -8,6 +8,7 @@ use metanet::SegmentState;
 use segment::{entering, state};
 
 // Stores the figures that a step makes; S and m are those of an ALINEA ramp alone.
+#[tactic(auto, unfolding(metanet::proofs::InWords::stepped_words))]
 fn store(w: &mut [u64], r: SegmentState)
     requires { length w.old ≡ 16 }
     ensures { w.new ≡ stepped_words w.old r }
@@ -40,24 +41,22 @@ pub(crate) fn step_states(
 {
     let h = network_words::kept_head(&words[..network_words::NETWORK_WORDS]);
     let mut acc = entering::none_yet();
-    let mut i: usize = 0;
-    let mut left: u64 = 0;
-    while i < n {
+    let mut left = 0;
+    for i in 0..n {
         let a = at + 16 * i;
         let e = a + 16;
         let b = from + i;
         let own = i + 1;
         let v = speeds[b];
-        let d = arrivals[i] as u64;
+        let d = u64::from(arrivals[i]);
         let came = acc[own];
         let r = state::new_state_in(words, h, a, v, d, i, t, came);
         let flows = r.flows;
         let rest = state::pass_on(words, i, flows.outflow);
-        left = left + (flows.outflow - rest);
+        left += flows.outflow - rest;
         let f = state::following_of(words, i);
         store(&mut words[a..e], r);
         speeds[b] = r.speed;
-        i = own;
         let p = f.first as usize;
         let pe = acc[p];
         if f.second == 0 {

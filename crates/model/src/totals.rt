@@ -9,16 +9,15 @@ pub(crate) fn sum_arrivals(arrivals: &[u32], n: usize) -> u64
     requires { (n ≤ 40) × (length arrivals.now ≡ n) }
     ensures { (result ≡ sum_of (λ i. get_or arrivals.now i 0) n) × (result ≤ 4294967296 * n) }
 {
-    let mut sum: u64 = 0;
-    let mut i: usize = 0;
-    while i < n {
-        sum = sum + (arrivals[i] as u64);
-        i += 1;
+    let mut sum = 0;
+    for i in 0..n {
+        sum += u64::from(arrivals[i]);
     }
     sum
 }
 
 // One step more, with what came, what left and the time spent.
+#[tactic(auto, unfolding(metanet::proofs::InWords::totals_words))]
 pub(crate) fn add_totals(w: &mut [u64], came: u64, left: u64, time: u64)
     requires w_len { (length w.old ≡ 8) × (came ≤ 1000000000000000000) × (left ≤ 1000000000000000000) × (time ≤ 1000000000000000000) }
     requires totals_ok { TotalsOk w.old 0 }

@@ -1,2 +1,3 @@
-pub mod EightEntries
 pub mod NoneBefore
+pub mod Short
+pub mod Onward

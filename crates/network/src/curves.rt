@@ -1,11 +1,13 @@
 // A curve's 201 entries in the file: row 6.
 ghost use Rattle.std.specs.Prelude.{◌≡◌, ◌+◌, ◌*◌, ◌<◌, ◌≤◌, length};
-ghost use Rattle.laws.specs.First.{first_of};
+ghost use Rattle.laws.specs.Refusal.{refused};
+ghost use Rattle.laws.specs.First.{row, first_of};
 ghost use Rattle.format.specs.Network.{rising, curve_number};
-ghost use Rattle.format.specs.File.{curve_start, curve_in, entry_at};
+ghost use Rattle.format.specs.File.{curves_number, entry_at};
 
-use crate::rows;
+use crate::file::File;
 use arrays::number;
+use laws::Refusal;
 
 // Entry j of the curve at place at.
 pub(crate) fn entry(file: &[u8], at: usize, j: usize) -> u64
@@ -15,57 +17,41 @@ pub(crate) fn entry(file: &[u8], at: usize, j: usize) -> u64
     number::u32_in(file, at + 4 * j)
 }
 
-// Row 6, of the eight entries after entry j, which is a; the last of them is i. So each entry of a curve is read once.
-fn eight_row(file: &[u8], at: usize, j: usize, a: u64, i: u64) -> u64
-    requires { (at + 4 * j + 36 ≤ length file.now) × (a ≡ entry_at file.now at j) × (i ≡ entry_at file.now at (j + 8)) }
-    ensures { result ≡ first_of (λ i. rising (entry_at file.now at) (j + i)) 8 }
-{
-    rows::eight_rising(
-        a,
-        entry(file, at, j + 1),
-        entry(file, at, j + 2),
-        entry(file, at, j + 3),
-        entry(file, at, j + 4),
-        entry(file, at, j + 5),
-        entry(file, at, j + 6),
-        entry(file, at, j + 7),
-        i,
-    )
-}
-
-fn curve_row(file: &[u8], at: usize) -> u64
+// Whether an entry of the curve at place at is above the one before it. The loop has no branch, so that it becomes one over vectors: with a
+// return in it, it takes three times as long.
+#[tactic(auto, unfolding(format::specs::Network::rising, laws::specs::First::row, laws::specs::First::first, laws::specs::First::first_of))]
+fn rises(file: &[u8], at: usize) -> bool
     requires { at + 804 ≤ length file.now }
-    ensures { result ≡ curve_number (entry_at file.now at) }
+    ensures { row result 6 0 ≡ first_of (rising (entry_at file.now at)) 200 }
 {
-    let mut last = entry(file, at, 0);
-    if arrays::outside(1000, last, 200000) {
-        return 6;
+    let mut rises = false;
+    for j in 0..200 {
+        rises |= entry(file, at, j) < entry(file, at, j + 1);
     }
-    let mut k = 0;
-    while k < 25 {
-        let next = entry(file, at, 8 * k + 8);
-        let r = eight_row(file, at, 8 * k, last, next);
-        if r != 0 {
-            return r;
-        }
-        last = next;
-        k += 1;
-    }
-    0
+    rises
 }
 
-// Row 6, of the first c curves.
-pub(crate) fn curve_rows(file: &[u8], c: usize) -> u64
-    requires { curve_start c ≤ length file.now }
-    ensures { result ≡ first_of (curve_in file.now) c }
+// Row 6, of the curve at place at.
+#[tactic(auto, unfolding(format::specs::Network::curve_number, laws::specs::First::row))]
+fn check_curve_at(file: &[u8], at: usize) -> Result<(), Refusal>
+    requires { at + 804 ≤ length file.now }
+    ensures { refused result ≡ curve_number (entry_at file.now at) }
 {
-    let mut k = 0;
-    while k < c {
-        let r = curve_row(file, 16 + 804 * k);
-        if r != 0 {
-            return r;
-        }
-        k += 1;
+    if arrays::outside(1000, entry(file, at, 0), 200000) || rises(file, at) {
+        return Err(Refusal::Curve);
     }
-    0
+    Ok(())
+}
+
+impl File<'_> {
+    // Row 6, of all curves.
+    #[tactic(auto, using(laws::proofs::Refused::row_loop), unfolding(format::specs::File::curves_number))]
+    pub(crate) fn check_curves(&self) -> Result<(), Refusal>
+        ensures { refused result ≡ curves_number self.now.bytes.now }
+    {
+        for k in 0..self.head.curves {
+            check_curve_at(self.bytes, 16 + 804 * (k as usize))?;
+        }
+        Ok(())
+    }
 }

@@ -1,62 +1,57 @@
-// The network file: read or refused by a number, its curves shown as the file's own bytes.
+// The network file: read or refused, its curves shown as the file's own bytes.
 #![tactic(auto)]
 
-pub mod rows; // rows.rt: rows 3, 4, 6, 7, 27 and 8 of a network's numbers
+pub mod rows; // rows.rt: rows 3, 4, 7, 27 and 8 of a network's numbers
 mod heads; // heads.rt: the first 16 bytes, rows 1 to 5
+mod file; // file.rt: a file whose head is accepted
 mod curves; // curves.rt: a curve's entries, row 6
 mod records; // records.rt: a segment's 16 or 20 bytes, rows 7, 27 and 8
-mod origins; // origins.rt: segments without an origin, row 28
+pub mod origins; // origins.rt: segments without an origin, row 28
 
 ghost use Rattle.std.specs.Prelude.{◌≡◌, ◌<◌, ◌≤◌};
+ghost use Rattle.laws.specs.Refusal.{refused};
 ghost use Rattle.format.specs.File.{head_of, record_size, file_size, record_start, entry_on, segment_on, file_number};
 ghost use Rattle.format.specs.Curve.{curve_call_number, curve_bytes};
 
+use crate::file::File;
 use arrays::number;
 use format::{Head, Segment};
+use laws::Refusal;
 
-// The number that refuses the file, and 0 where it is accepted.
-pub fn check(file: &[u8]) -> u64
-    ensures { result ≡ file_number file.now }
+// Whether a row of the table refuses the file, and which.
+#[tactic(auto, using(laws::proofs::Refused::number_above), unfolding(format::specs::File::file_number, laws::specs::First::first))]
+pub fn check(file: &[u8]) -> Result<(), Refusal>
+    ensures { refused result ≡ file_number file.now }
 {
-    let in_head = heads::head_number(file);
-    if in_head != 0 {
-        return in_head;
-    }
-    let h = head_of(file);
-    let c = h.curves as usize;
-    let n = h.size as usize;
-    let in_curves = curves::curve_rows(file, c);
-    if in_curves != 0 {
-        return in_curves;
-    }
-    let in_records = records::record_rows(file, h, n);
-    if in_records != 0 {
-        return in_records;
-    }
-    origins::origin_rows(file, h, n)
+    heads::check_head(file)?;
+    let f = File {
+        bytes: file,
+        head: head_of(file),
+    };
+    f.check_curves()?;
+    f.check_records()?;
+    f.check_origins()
 }
 
-// The number that refuses curve k of the file, and 0 where nothing does.
-pub fn curve_number(file: &[u8], k: u64) -> u64
-    ensures { result ≡ curve_call_number file.now k }
+// Whether curve k of the file can be shown: the file is accepted, and has that curve.
+#[tactic(auto, using(laws::proofs::Refused::number_above), unfolding(format::specs::Curve::curve_call_number, laws::specs::First::row, laws::specs::First::first))]
+pub fn check_curve(file: &[u8], k: u64) -> Result<(), Refusal>
+    ensures { refused result ≡ curve_call_number file.now k }
 {
-    let r = check(file);
-    if r != 0 {
-        return r;
+    check(file)?;
+    if head_of(file).curves <= k {
+        return Err(Refusal::NoCurve);
     }
-    let h = head_of(file);
-    if h.curves <= k {
-        return 10;
-    }
-    0
+    Ok(())
 }
 
-// The 804 bytes of the file that hold curve k, or an empty part where curve_number refuses.
+// The 804 bytes of the file that hold curve k, or an empty part where check_curve refuses.
+#[tactic(auto, using(laws::proofs::Lists::span, format::proofs::CurveCall::curve_below, format::proofs::CurveCall::curve_ends, format::proofs::CurveCall::curve_bytes_none, format::proofs::CurveCall::curve_bytes_some))]
 pub fn curve(file: &[u8], k: u64) -> &[u8]
     ensures { result.now ≡ curve_bytes file.now k }
 {
-    if curve_number(file, k) != 0 {
-        return &file[0..0];
+    if check_curve(file, k).is_err() {
+        return &[];
     }
     let at = 16 + 804 * (k as usize);
     &file[at..at + 804]
@@ -79,13 +74,11 @@ pub fn head_of(file: &[u8]) -> Head
 }
 
 // The bytes of a record.
+#[tactic(auto, unfolding(format::specs::File::record_size))]
 pub fn record_size(h: Head) -> u64
     ensures { (result ≡ record_size h) × (result ≤ 20) }
 {
-    if h.version == 1 {
-        return 16;
-    }
-    20
+    if h.version == 1 { 16 } else { 20 }
 }
 
 // As many bytes as the head says; a byte past the end of the file reads as 0.
@@ -101,7 +94,7 @@ pub fn record_start(file: &[u8], i: u32) -> u64
     ensures { (result ≡ record_start (head_of file.now) i) × (result < 100000000000) }
 {
     let w = record_size(head_of(file));
-    16 + 804 * number::byte_at(file, 7) + w * (i as u64)
+    16 + 804 * number::byte_at(file, 7) + w * u64::from(i)
 }
 
 // Entry j of curve k, both counted from 0, of a file of any content; a byte past its end reads as 0.
@@ -111,10 +104,17 @@ pub fn entry_of(file: &[u8], k: u32, j: u32) -> u64
     number::u32_at(file, 16 + 804 * (k as usize) + 4 * (j as usize))
 }
 
-// Segment i, counted from 0, of a file of any content; a byte past its end reads as 0.
+// Segment i, counted from 0, of a file of any content; a byte past its end reads as 0. One test whether all bytes of its record are there,
+// for Start reads every segment.
+#[tactic(auto, using(laws::proofs::Lists::span, laws::proofs::Lists::rest_is, std::proofs::lemmas::List::drop_min, std::proofs::lemmas::List::take_all, format::proofs::File::segment_part_lem))]
 pub fn segment_of(file: &[u8], i: u32) -> Segment
     ensures { result ≡ segment_on file.now i }
 {
     let h = head_of(file);
-    records::read_segment(file, h, i as u64, record_start(file, i) as usize)
+    let at = record_start(file, i) as usize;
+    let w = record_size(h) as usize;
+    if at + w <= file.len() {
+        return records::read(&file[at..at + w], h, i);
+    }
+    records::read_short(&file[at.min(file.len())..], h, i)
 }

@@ -1,75 +1,74 @@
-// Row 28, after the last record: a segment with neither a segment before it nor an origin.
-ghost use Rattle.std.specs.Prelude.{◌≡◌, ◌<◌, ◌≤◌};
-ghost use Rattle.laws.specs.First.{first_of, some_below};
-ghost use Rattle.format.specs.Network.{goes_to, origin_number};
-ghost use Rattle.format.specs.File.{record_start, following_of, segment_at, record_number};
-ghost use Rattle.format.proofs.Accepted.{Sized};
+// Row 28, after rows 7, 27 and 8 of all segments: one with neither a segment before it nor an origin. Of a file and of words alike.
+ghost use Rattle.std.specs.Prelude.{◌≡◌, ◌<◌, ◌≤◌, ℕ};
+ghost use Rattle.laws.specs.Refusal.{refused};
+ghost use Rattle.laws.specs.First.{first_of};
+ghost use Rattle.format.specs.declared.Segment.{Segment};
+ghost use Rattle.format.specs.Network.{has_before, origin_number};
+ghost use Rattle.format.proofs.Accepted.{FollowingWithin};
 
-use crate::records;
-use arrays::number;
-use format::Head;
+use format::Following;
+use laws::Refusal;
 
-// Whether segment k goes on to segment i.
-fn goes_to(file: &[u8], h: Head, k: usize, i: usize) -> bool
-    requires sized { Sized file.now h }
-    requires k_lt_size { (k < h.size) × (i < h.size) }
-    ensures { result ≡ goes_to i (following_of file.now h k (record_start h k)) }
-{
-    let f = records::following_in(file, h, k as u64, records::start(h, k));
-    let number = i as u64 + 1;
-    (f.first == number) | (f.second == number)
+// The segments of a network, counted from 0.
+pub trait Segments {
+    ghost size: { Self → ℕ };
+
+    ghost segment: { Self → ℕ → Segment };
+
+    // Its origin number, 0 where it has none.
+    fn origin(&self, i: u32) -> u64
+        requires { i < size self.now }
+        ensures { result ≡ (segment self.now i).origin };
+
+    // What follows it.
+    fn following(&self, k: u32) -> Following
+        requires { k < size self.now }
+        ensures { result ≡ (segment self.now k).following };
 }
 
-// Whether one of the segments below i goes on to it. Most often it is the one just before.
-fn has_before(file: &[u8], h: Head, i: usize) -> bool
-    requires sized { Sized file.now h }
-    requires i_lt_size { i < h.size }
-    ensures { result ≡ some_below (λ k. goes_to i (following_of file.now h k (record_start h k))) i }
+// Whether some segment goes on to segment i. By row 27 it is one below i; it is looked for from i - 1 downwards, since most often the one
+// just before goes on to it.
+#[tactic(auto, using(crate::proofs::Onward::looking))]
+pub fn has_before<S: Segments>(net: &S, i: u32) -> bool
+    requires onward { (k : ℕ) → k < S.size net.now → FollowingWithin (S.size net.now) k (S.segment net.now k).following }
+    requires i_bound { i < S.size net.now }
+    ensures { result ≡ has_before (S.segment net.now) (S.size net.now) i }
 {
-    let mut j = i;
-    while 0 < j {
-        let k = j - 1;
-        if goes_to(file, h, k, i) {
+    let number = u64::from(i) + 1;
+    for k in (0..i).rev() {
+        let f = net.following(k);
+        if (f.first == number) | (f.second == number) {
             return true;
         }
-        j = k;
     }
     false
 }
 
-// Where row 27 refuses no record, those before segment i are below it.
-fn origin_row(file: &[u8], h: Head, i: usize) -> u64
-    requires sized { Sized file.now h }
-    requires size_value { first_of (record_number file.now h) h.size ≡ 0 }
-    requires i_lt_size { i < h.size }
-    ensures { result ≡ origin_number (λ k. segment_at file.now h k (record_start h k)) h.size i }
+// Row 28, of the n segments. The chain, which version 1 means, passes it.
+#[tactic(auto, using(laws::proofs::Refused::row_loop), unfolding(format::specs::Network::origin_number, laws::specs::First::row))]
+pub fn check_origins<S: Segments>(net: &S, n: u32, version: u64) -> Result<(), Refusal>
+    requires n_value { n ≡ S.size net.now }
+    requires onward { (k : ℕ) → k < S.size net.now → FollowingWithin (S.size net.now) k (S.segment net.now k).following }
+    requires chain_passes { version ≡ 1 → first_of (origin_number (S.segment net.now) n) n ≡ 0 }
+    ensures { refused result ≡ first_of (origin_number (S.segment net.now) n) n }
 {
-    if number::byte_at(file, records::start(h, i) + 6) != 0 {
-        return 0;
+    if version == 1 {
+        return Ok(());
     }
-    if has_before(file, h, i) {
-        return 0;
+    for i in 0..n {
+        check_origin(net, i)?;
     }
-    28
+    Ok(())
 }
 
-// Row 28, of the first n segments. In version 1, the chain, each has the one before it, and the first an origin.
-pub(crate) fn origin_rows(file: &[u8], h: Head, n: usize) -> u64
-    requires sized { Sized file.now h }
-    requires size_value { first_of (record_number file.now h) h.size ≡ 0 }
-    requires n_le_size { n ≤ h.size }
-    ensures { result ≡ first_of (origin_number (λ k. segment_at file.now h k (record_start h k)) h.size) n }
+#[tactic(auto, unfolding(format::specs::Network::origin_number, laws::specs::First::row))]
+fn check_origin<S: Segments>(net: &S, i: u32) -> Result<(), Refusal>
+    requires onward { (k : ℕ) → k < S.size net.now → FollowingWithin (S.size net.now) k (S.segment net.now k).following }
+    requires i_bound { i < S.size net.now }
+    ensures { refused result ≡ origin_number (S.segment net.now) (S.size net.now) i }
 {
-    if h.version == 1 {
-        return 0;
+    if net.origin(i) == 0 && !has_before(net, i) {
+        return Err(Refusal::NothingEnters);
     }
-    let mut i = 0;
-    while i < n {
-        let r = origin_row(file, h, i);
-        if r != 0 {
-            return r;
-        }
-        i += 1;
-    }
-    0
+    Ok(())
 }

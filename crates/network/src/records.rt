@@ -1,181 +1,121 @@
 // A segment's record, 16 bytes in version 1 and 20 in version 2: rows 7, 27 and 8.
-ghost use Rattle.std.specs.Prelude.{◌≡◌, ◌||◌, ◌+◌, ◌*◌, ◌<◌, ◌≤◌, length};
-ghost use Rattle.laws.specs.First.{first_of};
-ghost use Rattle.laws.specs.BigEndian.{u32_at};
+ghost use Rattle.std.specs.Prelude.{◌≡◌, ◌||◌, ◌<◌, ◌≤◌, length};
+ghost use Rattle.laws.specs.Refusal.{refused};
 ghost use Rattle.format.specs.Network.{chain, segment_bad, record_rows};
-ghost use Rattle.format.specs.File.{curve_start, entry_at, record_size, record_start, following_at, following_of, segment_at, record_padding, record_number};
-ghost use Rattle.format.proofs.Accepted.{HeadWithin, Sized};
-ghost use Rattle.format.proofs.File.{fields_at};
+ghost use Rattle.format.specs.File.{curve_start, entry_at, record_size, following_of, segment_at, record_padding, record_number, records_number};
 
+use crate::file::File;
 use crate::{curves, rows};
 use arrays::number;
 use format::{Following, Head, Segment};
+use laws::Refusal;
 
-// Version 1: segment i, counted from 0, is followed by the next, the last by none.
-fn next_only(n: u64, i: u64) -> Following
-    requires { i < 4294967296 }
-    ensures { result ≡ chain n i }
-{
-    if i + 1 < n {
-        return Following {
-            first: i + 2,
-            second: 0,
-            share: 1000,
-        };
-    }
-    Following {
-        first: 0,
-        second: 0,
-        share: 1000,
-    }
-}
-
-// Version 2: the last four bytes of the record at place at.
-fn said(file: &[u8], at: usize) -> Following
-    requires { at < 100000000000 }
-    ensures { result ≡ following_at file.now at }
-{
-    Following {
-        first: number::byte_at(file, at + 16),
-        second: number::byte_at(file, at + 17),
-        share: number::u16_at(file, at + 18),
-    }
-}
-
-// What follows segment i, whose record begins at place at.
-fn following(file: &[u8], h: Head, i: u64, at: usize) -> Following
-    requires { (i < 4294967296) × (at < 100000000000) }
-    ensures { result ≡ following_of file.now h i at }
+// What follows segment i: in version 2 the last four bytes of its record say it. In a part of constant length no byte needs a test.
+#[tactic(auto, using(format::proofs::File::record_two, format::proofs::File::said_part), unfolding(format::specs::File::following_of))]
+pub(crate) fn following(bytes: &[u8], h: Head, i: u32) -> Following
+    requires { record_size h ≤ length bytes.now }
+    ensures { result ≡ following_of bytes.now h i 0 }
 {
     if h.version == 1 {
-        return next_only(h.size, i);
+        return rows::chain(h.size, i);
     }
-    said(file, at)
+    let twenty = &bytes[..20];
+    Following {
+        first: number::byte_at(twenty, 16),
+        second: number::byte_at(twenty, 17),
+        share: number::u16_at(twenty, 18),
+    }
 }
 
-// The same, where all bytes of the record are there: in a part of constant length no byte needs a test.
-pub(crate) fn following_in(file: &[u8], h: Head, i: u64, at: usize) -> Following
-    requires i_bound { i < 4294967296 }
-    requires h_in_bounds { at + record_size h ≤ length file.now }
-    ensures { result ≡ following_of file.now h i at }
+// Segment i, by the bytes of its record. In a part of constant length no byte needs a test.
+#[tactic(auto, using(format::proofs::File::record_low, format::proofs::File::fields_part))]
+pub(crate) fn read(bytes: &[u8], h: Head, i: u32) -> Segment
+    requires { record_size h ≤ length bytes.now }
+    ensures { result ≡ segment_at bytes.now h i 0 }
 {
-    if h.version == 1 {
-        return next_only(h.size, i);
-    }
-    said(&file[at..at + 20], 0)
-}
-
-// The fields in the 16 bytes that both versions have; the caller read Q and what follows the segment. So it is small enough that LLVM
-// puts it into its callers, and in a part of 16 bytes no byte needs a test.
-fn read_fields(file: &[u8], at: usize, most: u64, f: Following) -> Segment
-    requires at_bound { at < 100000000000 }
-    requires most_value { most ≡ u32_at file.now (at + 10) }
-    ensures { result ≡ fields_at file.now at f }
-{
+    let sixteen = &bytes[..16];
     Segment {
-        metres: number::u16_at(file, at),
-        lanes: number::byte_at(file, at + 2),
-        curve: number::byte_at(file, at + 3),
-        critical: number::byte_at(file, at + 4),
-        jam: number::byte_at(file, at + 5),
-        origin: number::byte_at(file, at + 6),
-        exit: number::u16_at(file, at + 8),
-        most: most,
-        following: f,
+        metres: number::u16_at(sixteen, 0),
+        lanes: number::byte_at(sixteen, 2),
+        curve: number::byte_at(sixteen, 3),
+        critical: number::byte_at(sixteen, 4),
+        jam: number::byte_at(sixteen, 5),
+        origin: number::byte_at(sixteen, 6),
+        exit: number::u16_at(sixteen, 8),
+        most: number::u32_in(sixteen, 10),
+        following: following(bytes, h, i),
     }
 }
 
-// Segment i, where all bytes of its record are there.
-fn read_record(file: &[u8], h: Head, i: u64, at: usize) -> Segment
-    requires i_bound { i < 4294967296 }
-    requires h_in_bounds { at + record_size h ≤ length file.now }
-    ensures { result ≡ segment_at file.now h i at }
+// Segment i, where the file ends in its record: a byte past the end reads as 0.
+#[tactic(auto, using(crate::proofs::Short::padded_long, crate::proofs::Short::segment_padded))]
+pub(crate) fn read_short(bytes: &[u8], h: Head, i: u32) -> Segment
+    requires { length bytes.now < 20 }
+    ensures { result ≡ segment_at bytes.now h i 0 }
 {
-    let sixteen = &file[at..at + 16];
-    let most = number::u32_in(sixteen, 10);
-    let f = following_in(file, h, i, at);
-    read_fields(sixteen, 0, most, f)
-}
-
-// One test whether all bytes of the record are there; where they are not, each byte has its own.
-pub(crate) fn read_segment(file: &[u8], h: Head, i: u64, at: usize) -> Segment
-    requires { (i < 4294967296) × (at < 100000000000) }
-    ensures { result ≡ segment_at file.now h i at }
-{
-    let w = crate::record_size(h) as usize;
-    if at + w <= file.len() {
-        return read_record(file, h, i, at);
-    }
-    let most = number::u32_at(file, at + 10);
-    let f = following(file, h, i, at);
-    read_fields(file, at, most, f)
+    let mut whole = [0; 20];
+    whole[..bytes.len()].copy_from_slice(bytes);
+    read(&whole, h, i)
 }
 
 // Row 7, of the bytes that are zero.
-fn record_padding(file: &[u8], at: usize) -> bool
-    requires { at < 100000000000 }
-    ensures { result ≡ record_padding file.now at }
+#[tactic(auto, using(format::proofs::File::padding_part))]
+fn record_padding(bytes: &[u8]) -> bool
+    requires { 16 ≤ length bytes.now }
+    ensures { result ≡ record_padding bytes.now 0 }
 {
-    (0 < number::byte_at(file, at + 7)) | (0 < number::u16_at(file, at + 14))
+    let sixteen = &bytes[..16];
+    (0 < number::byte_at(sixteen, 7)) | (0 < number::u16_at(sixteen, 14))
 }
 
-// Rows 7, 27 and 8 of segment i, which was read as s; zeros says whether a byte of its record is not zero that must be.
-fn judged(file: &[u8], h: Head, i: u64, s: Segment, zeros: bool) -> u64
-    requires head_within { HeadWithin h }
-    requires curves_in_bounds { curve_start h.curves ≤ length file.now }
-    requires i_lt_size { i < h.size }
-    requires following_value { h.version ≡ 1 → s.following ≡ chain h.size i }
-    ensures { result ≡ record_rows (segment_bad h i s || zeros) h i (entry_at file.now (curve_start s.curve) 0) s }
-{
-    if rows::fields_bad(h, i, s) | zeros {
-        return 7;
+impl File<'_> {
+    // The first entry of curve k.
+    fn top(&self, k: u64) -> u64
+        requires { k < self.now.head.curves }
+        ensures { (result ≡ entry_at self.now.bytes.now (curve_start k) 0) × (result < 4294967296) }
+    {
+        curves::entry(self.bytes, 16 + 804 * (k as usize), 0)
     }
-    let refused = rows::following_row(h, i, s);
-    if refused != 0 {
-        return refused;
-    }
-    let k = s.curve as usize;
-    let first = curves::entry(file, 16 + 804 * k, 0);
-    if rows::too_fast(h, first, s) {
-        return 8;
-    }
-    0
-}
 
-// Where record i begins.
-pub(crate) fn start(h: Head, i: usize) -> usize
-    requires head_within { HeadWithin h }
-    requires i_lt_size { i < h.size }
-    ensures { (result ≡ record_start h i) × (result < 100000) }
-{
-    let c = h.curves as usize;
-    let w = crate::record_size(h) as usize;
-    16 + 804 * c + w * i
-}
-
-fn record_row(file: &[u8], h: Head, i: usize) -> u64
-    requires sized { Sized file.now h }
-    requires i_lt_size { i < h.size }
-    ensures { result ≡ record_number file.now h i }
-{
-    let at = start(h, i);
-    let s = read_record(file, h, i as u64, at);
-    judged(file, h, i as u64, s, record_padding(&file[at..at + 16], 0))
-}
-
-// Rows 7, 27 and 8, of the first n records.
-pub(crate) fn record_rows(file: &[u8], h: Head, n: usize) -> u64
-    requires sized { Sized file.now h }
-    requires n_le_size { n ≤ h.size }
-    ensures { result ≡ first_of (record_number file.now h) n }
-{
-    let mut i = 0;
-    while i < n {
-        let r = record_row(file, h, i);
-        if r != 0 {
-            return r;
+    // Rows 7, 27 and 8 of segment i, which was read as s; zeros says whether a byte of its record is not zero that must be.
+    #[tactic(auto, unfolding(format::specs::Network::record_rows, format::specs::Network::segment_bad, format::proofs::Rows::following_row, laws::specs::First::row))]
+    fn check_read(&self, i: u64, s: Segment, zeros: bool) -> Result<(), Refusal>
+        requires i_lt_size { i < self.now.head.size }
+        requires following_value { self.now.head.version ≡ 1 → s.following ≡ chain self.now.head.size i }
+        ensures { refused result ≡ record_rows (segment_bad self.now.head i s || zeros) self.now.head i (entry_at self.now.bytes.now (curve_start s.curve) 0) s }
+    {
+        if rows::fields_bad(self.head, i, s) | zeros {
+            return Err(Refusal::Record);
         }
-        i += 1;
+        rows::check_following(self.head, i, s)?;
+        if rows::too_fast(self.head, self.top(s.curve), s) {
+            return Err(Refusal::TooFast);
+        }
+        Ok(())
     }
-    0
+
+    // Rows 7, 27 and 8, of record i.
+    #[tactic(auto, using(format::proofs::File::record_low, format::proofs::File::padding_part), unfolding(format::specs::File::record_number, format::specs::File::following_of))]
+    fn check_record(&self, i: u32) -> Result<(), Refusal>
+        requires { i < self.now.head.size }
+        ensures { refused result ≡ record_number self.now.bytes.now self.now.head i }
+    {
+        let bytes = self.record_of(i);
+        self.check_read(
+            u64::from(i),
+            read(bytes, self.head, i),
+            record_padding(bytes),
+        )
+    }
+
+    // Rows 7, 27 and 8, of all records.
+    #[tactic(auto, using(laws::proofs::Refused::row_loop), unfolding(format::specs::File::records_number))]
+    pub(crate) fn check_records(&self) -> Result<(), Refusal>
+        ensures { refused result ≡ records_number self.now.bytes.now }
+    {
+        for i in 0..self.head.size as u32 {
+            self.check_record(i)?;
+        }
+        Ok(())
+    }
 }

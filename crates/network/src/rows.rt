@@ -1,10 +1,26 @@
-// Rows 3, 4, 6, 7, 27 and 8 of a network's numbers, whether they stand in a file or in words.
+// Rows 3, 4, 7, 27 and 8 of a network's numbers, whether they stand in a file or in words. Row 6 is judged apart: a file's entries are four
+// bytes each and those in words eight, and each has its own way without a branch.
 ghost use Rattle.std.specs.Prelude.{◌≡◌, ◌<◌, ◌≤◌, ◌||◌, ◌&&◌, take, ltb, eqb};
+ghost use Rattle.laws.specs.Refusal.{refused};
 ghost use Rattle.laws.specs.First.{any_of, row, outside};
 ghost use Rattle.format.specs.Network.{version_bad, head_bad, chain, segment_tests, share_tests, not_higher, followers_bad, too_fast};
 ghost use Rattle.format.proofs.Rows.{following_row};
 
 use format::{Following, Head, Segment};
+use laws::Refusal;
+
+// What follows segment i, counted from 0, in version 1: the next of n, and none after the last.
+#[tactic(auto, unfolding(format::specs::Network::chain))]
+pub fn chain(n: u64, i: u32) -> Following
+    ensures { result ≡ chain n i }
+{
+    let i = u64::from(i);
+    Following {
+        first: if i + 1 < n { i + 2 } else { 0 },
+        second: 0,
+        share: 1000,
+    }
+}
 
 // Row 3.
 pub fn version_bad(h: Head) -> bool
@@ -14,6 +30,7 @@ pub fn version_bad(h: Head) -> bool
 }
 
 // Row 4, of the fields.
+#[tactic(auto, unfolding(format::specs::Network::head_bad, laws::specs::First::any_of, laws::specs::First::or_from))]
 pub fn head_bad(h: Head) -> bool
     ensures { result ≡ head_bad h }
 {
@@ -26,39 +43,8 @@ pub fn head_bad(h: Head) -> bool
         | (1000 < h.delta)
 }
 
-// Row 6, of eight entries of a curve, b to i, each against the one before it. Curves are judged eight entries at a time, so that the
-// loop costs little beside its tests.
-pub fn eight_rising(a: u64, b: u64, c: u64, d: u64, e: u64, f: u64, g: u64, h: u64, i: u64) -> u64
-    ensures { result ≡ row (ltb a b) 6 (row (ltb b c) 6 (row (ltb c d) 6 (row (ltb d e) 6 (row (ltb e f) 6 (row (ltb f g) 6 (row (ltb g h) 6 (row (ltb h i) 6 0))))))) }
-{
-    if a < b {
-        return 6;
-    }
-    if b < c {
-        return 6;
-    }
-    if c < d {
-        return 6;
-    }
-    if d < e {
-        return 6;
-    }
-    if e < f {
-        return 6;
-    }
-    if f < g {
-        return 6;
-    }
-    if g < h {
-        return 6;
-    }
-    if h < i {
-        return 6;
-    }
-    0
-}
-
 // Row 7, of all fields of segment i but Q and the share.
+#[tactic(auto, unfolding(laws::specs::First::any_of, laws::specs::First::or_from))]
 fn first_ten_bad(h: Head, i: u64, s: Segment) -> bool
     ensures { result ≡ any_of (take 10 (segment_tests h i s)) }
 {
@@ -87,16 +73,15 @@ fn most_bad(s: Segment) -> bool
 
 // Row 7, of the fields of segment i, counted from 0, but for the share. Branches cost less than one value of all tests: none is taken in an
 // accepted network.
+#[tactic(auto, unfolding(laws::specs::First::any_of, laws::specs::First::or_from))]
 pub fn fields_bad(h: Head, i: u64, s: Segment) -> bool
     ensures { result ≡ any_of (segment_tests h i s) }
 {
-    if first_ten_bad(h, i, s) {
-        return true;
-    }
-    most_bad(s)
+    first_ten_bad(h, i, s) || most_bad(s)
 }
 
 // Row 7, of the share to the first following segment.
+#[tactic(auto, unfolding(laws::specs::First::any_of, laws::specs::First::or_from))]
 fn share_bad(s: Segment) -> bool
     ensures { result ≡ any_of (share_tests s) }
 {
@@ -113,6 +98,7 @@ pub fn not_higher(i: u64, k: u64) -> bool
 }
 
 // Row 27, of what follows segment i, counted from 0.
+#[tactic(auto, unfolding(format::specs::Network::followers_bad, laws::specs::First::any_of, laws::specs::First::or_from))]
 fn followers_bad(h: Head, i: u64, f: Following) -> bool
     requires { i < 40 }
     ensures { result ≡ followers_bad h i f }
@@ -124,21 +110,22 @@ fn followers_bad(h: Head, i: u64, f: Following) -> bool
 }
 
 // Rows 7 and 27, of what follows segment i, counted from 0. Neither refuses the chain, which is what version 1 means.
-pub fn following_row(h: Head, i: u64, s: Segment) -> u64
+#[tactic(auto, using(format::proofs::Chain::chain_share, format::proofs::Chain::chain_followers), unfolding(format::proofs::Rows::following_row, laws::specs::First::row))]
+pub fn check_following(h: Head, i: u64, s: Segment) -> Result<(), Refusal>
     requires i_bound { i < 40 }
     requires following_value { h.version ≡ 1 → s.following ≡ chain h.size i }
-    ensures { result ≡ following_row h i s }
+    ensures { refused result ≡ following_row h i s }
 {
     if h.version == 1 {
-        return 0;
+        return Ok(());
     }
     if share_bad(s) {
-        return 7;
+        return Err(Refusal::Record);
     }
     if followers_bad(h, i, s.following) {
-        return 27;
+        return Err(Refusal::Followers);
     }
-    0
+    Ok(())
 }
 
 // Row 8, where first is the first entry of the segment's curve.

@@ -1,21 +1,14 @@
 -- Row 6 from the OR of the differences of neighbours, each modulo 2^64: the loop that gathers them, and the tests of the code.
-use Rattle.std.proofs.Common.{◌≡◌, ℕ, zero, suc, ◌+◌, ◌*◌, ◌%◌, ◌^◌, ◌<◌, ◌≤◌, Bool, true, false, ◌⊎◌, sym, refl, ap, ◌∙◌, inl, inr, ⊎_elim, le_of_suc-le-suc, not-suc-le-zero, eq-or-lt_of_le, add-one, arith, le-ltb}
-use lib.Bits.{bit_or, or_lt, or_add_and, and_le_l, and_le_r}
+use Rattle.std.proofs.Common.{◌≡◌, ℕ, zero, suc, ◌+◌, ◌-◌, ◌*◌, ◌%◌, ◌^◌, ◌<◌, ◌≤◌, Bool, true, false, ◌⊎◌, sym, refl, ap, ◌∙◌, inl, inr, ⊎_elim, le_of_suc-le-suc, not-suc-le-zero, eq-or-lt_of_le, add-one, arith, le-ltb}
+use lib.Bits.{bit_or, or_lt}
+use Rattle.std.proofs.lemmas.Nat.{le_or_l, le_or_r}
 use Rattle.laws.specs.First.{outside, row, first, first_of}
 use Rattle.laws.proofs.Tests.{inside_high}
-use Rattle.laws.proofs.First.{row_skipped, first_of_all}
+use Rattle.laws.proofs.First.{row_applies, row_skipped, first_of_all}
 use Rattle.format.specs.Network.{rising, curve_number}
 use Rattle.format.proofs.Accepted.{CurveWithin}
 use Rattle.format.proofs.Rows.{curve_starts_in, curve_within, entries_fall, entry_high}
 use Rattle.network_words.specs.Differences.{Near, Differences}
-
--- ---- an OR is not below what it joins
-
-le_or_l : (a b : ℕ) → a ≤ bit_or a b
-le_or_l a b = omega (arith, or_add_and a b, and_le_r a b)
-
-le_or_r : (a b : ℕ) → b ≤ bit_or a b
-le_or_r a b = omega (arith, or_add_and a b, and_le_l a b)
 
 -- ---- row 6 says 0 or 6
 
@@ -43,6 +36,10 @@ module _ (e : ℕ → ℕ) where
   unfolding curve_number
   curve_broken broken = ⊎_elim (λ z. absurd (broken (curve_within e z))) (λ s. s) (row_six _ _ (rising_six 200))
 
+  pub curve_starts_out : outside 1000 (e 0) 200000 ≡ true → 6 ≡ curve_number e
+  unfolding curve_number
+  curve_starts_out out = sym (row_applies _ _ _ out)
+
   -- where the last entry is above the first, one has risen
   pub curve_ends_high : e 0 < e 200 → 6 ≡ curve_number e
   curve_ends_high up = curve_broken (λ w. omega (arith, entries_fall e w 0 200 (omega arith) (omega arith)))
@@ -53,8 +50,11 @@ module _ {e : ℕ → ℕ} where
   pub differences_none : Differences e 0 0
   differences_none = record { small = λ all. omega arith; near = λ s j l. absurd (not-suc-le-zero l) }
 
-  pub differences_more : {n r d : ℕ} → Differences e n r → d < 2 ^ 64 → (d + e (n + 1)) % 2 ^ 64 ≡ e n → Differences e (n + 1) (bit_or r d)
-  differences_more {n} {r} {d} before word wraps =
+  -- a and b are the two neighbours, as the code read them
+  pub differences_more : {n r a b : ℕ} → Differences e n r → a ≡ e n → b ≡ e (n + 1) → a < 2 ^ 64 → b < 2 ^ 64 → Differences e (n + 1) (bit_or r ((a + (2 ^ 64 - b)) % 2 ^ 64))
+  differences_more {n} {r} {a} {b} before p q high word =
+      let d : ℕ = (a + (2 ^ 64 - b)) % 2 ^ 64 in
+      let wraps : (d + e (n + 1)) % 2 ^ 64 ≡ e n = omega (arith, p, q) in
       record {
         small = λ all. let last = all n (omega arith) in or_lt 18 r d (before.small (λ j l. all j (omega (arith, l)))) (omega arith);
         near = λ s j l.
@@ -96,3 +96,8 @@ module _ {e : ℕ → ℕ} where
             let high = inside_high 1000 (e 0) 200000 starts in
             let none : e j < e (j + 1) → ⊥ = λ up. omega (arith, risen (d.near (omega (arith, s))) 200 (omega arith) j l up) in
             omega arith
+
+-- what a proof of the loop over the differences needs, and what a proof of the tests
+pub ruleset difference_loop = (differences_none, differences_more)
+
+pub ruleset difference_tests = (curve_wide, curve_ends_high, curve_passes, curve_starts_out)

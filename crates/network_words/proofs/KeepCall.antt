@@ -1,28 +1,42 @@
--- What keep writes of a file: zeros, then the head, the entries and the segments over them, and the four put together.
-use Rattle.std.proofs.Common.{◌≡◌, ℕ, ◌+◌, ◌-◌, ◌*◌, ◌≤◌, List, ◌++◌, length, take, drop, replicate, sym, ap, ◌∙◌, subst, append_assoc, arith, lit≤, length-append}
+-- What keep writes of a file b: zeros, then the head, the entries and the segments over them, and the four put together.
+use Rattle.std.proofs.Common.{◌≡◌, ℕ, ◌+◌, ◌-◌, ◌*◌, ◌≤◌, List, ◌++◌, length, take, drop, replicate, sym, ap, ◌∙◌, subst, append_assoc, arith, length-append, length-take-le}
+use Rattle.std.proofs.lemmas.List.{drop-replicate}
 use lib.ListN.{length-replicate, replicate-append-replicate}
 use Rattle.laws.specs.Lists.{table, parts, puts}
 use Rattle.laws.specs.BigEndian.{u32_at}
-use Rattle.laws.proofs.Lists.{length-table, parts_ext, table_ext, table_blocks, drop-replicate}
+use Rattle.laws.proofs.Lists.{length-table, parts_ext, table_ext, table_blocks}
 use Rattle.laws.proofs.Puts.{put_after, puts-after}
 use Rattle.format.specs.declared.Head.{Head}
 use Rattle.format.specs.Network.{network_from, entry_of, segment_of}
-use Rattle.format.specs.File.{head_of, entry_on, segment_on, network_of}
+use Rattle.format.specs.File.{file_number, head_of, entry_on, segment_on, network_of}
 use Rattle.format.specs.Words.{head_words, segment_words, kept_words}
+use Rattle.format.proofs.File.{network_within}
 use Rattle.format.proofs.From.{from_entry, from_segment}
 use Rattle.format.proofs.Kept.{length-head-words}
 
-module _ (b ws : List ℕ) where
-  -- ---- the four writes, one after the other, over the words ws
+-- ---- lengths
 
-  -- the first of them
-  abbrev zeros : List ℕ
-  zeros = replicate 2560 0 ++ drop 2560 ws
+pub length_kept : (ws : List ℕ) → 2560 ≤ length ws → length (take 2560 ws) ≡ 2560
+length_kept ws long = length-take-le 2560 ws long
 
-  -- what is left of the zeros from word m on
-  zeros_from : (m : ℕ) → m ≤ 2560 → drop m zeros ≡ replicate (2560 - m) 0 ++ drop 2560 ws
-  zeros_from m l = drop-replicate 0 m 2560 (drop 2560 ws) l
+pub head_few : (b : List ℕ) → file_number b ≡ 0 → (head_of b).curves ≤ 8
+head_few b z = (network_within b z).head.curves_high
 
+pub head_short : (b : List ℕ) → file_number b ≡ 0 → (head_of b).size ≤ 40
+head_short b z = (network_within b z).head.size_high
+
+pub ruleset keep_lengths = (length_kept, head_few, head_short)
+
+-- ---- the four writes, one after the other
+
+abbrev zeros : List ℕ
+zeros = replicate 2560 0
+
+-- what is left of them from word m on
+zeros_from : (m : ℕ) → drop m zeros ≡ replicate (2560 - m) 0
+zeros_from m = drop-replicate m 2560 0
+
+module _ (b : List ℕ) where
   -- the entry that stands at byte 16 + 4 m
   abbrev entry_from : ℕ → ℕ
   entry_from m = u32_at b (16 + 4 * m)
@@ -66,37 +80,35 @@ module _ (b ws : List ℕ) where
 
     rest_is : drop (16 + 201 * c) zeros ≡ gap ++ drop 1624 zeros
     rest_is =
-        zeros_from (16 + 201 * c) (omega (arith, few))
-        ∙ ap (λ (m : ℕ). replicate m 0 ++ drop 2560 ws) (apart c few)
-        ∙ ap (λ (l : List ℕ). l ++ drop 2560 ws) (sym (replicate-append-replicate (1608 - 201 * c) 936 0))
-        ∙ append_assoc gap (replicate 936 0) (drop 2560 ws)
-        ∙ ap (λ (l : List ℕ). gap ++ l) (sym (zeros_from 1624 (lit≤ tt)))
+        zeros_from (16 + 201 * c)
+        ∙ ap (λ (m : ℕ). replicate m 0) (apart c few)
+        ∙ sym (replicate-append-replicate (1608 - 201 * c) 936 0)
+        ∙ ap (λ (l : List ℕ). gap ++ l) (sym (zeros_from 1624))
       where
         apart : (c : ℕ) → c ≤ 8 → 2560 - (16 + 201 * c) ≡ 1608 - 201 * c + 936
         apart c l = omega arith
 
     all_kept : (out next last : List ℕ) → out ≡ head_words (head_of b) ++ drop 16 zeros → next ≡ take 16 out ++ (table entry_from (201 * c) ++ drop (16 + 201 * c) out)
-        → last ≡ puts 16 segment_from 1624 n next → last ≡ kept_words (network_of b) ++ drop 2560 ws
+        → last ≡ puts 16 segment_from 1624 n next → last ≡ kept_words (network_of b)
     unfolding kept_words network_from
     all_kept out next last e f g =
         let next_is = f ∙ put_after zeros out (head_words (head_of b)) (table entry_from (201 * c)) 16 (201 * c) (length-head-words (head_of b)) e in
         let padded = next_is ∙ ap (λ (l : List ℕ). front ++ l) rest_is ∙ sym (append_assoc front gap (drop 1624 zeros)) in
         g
         ∙ puts-after zeros next (front ++ gap) 1624 16 segment_from n length_gap padded
-        ∙ ap (λ (l : List ℕ). ((front ++ gap) ++ parts segment_from n) ++ l) (zeros_from (1624 + 16 * n) (omega (arith, short)) ∙ ap (λ (m : ℕ). replicate m 0 ++ drop 2560 ws) (left n short))
+        ∙ ap (λ (l : List ℕ). ((front ++ gap) ++ parts segment_from n) ++ l) (zeros_from (1624 + 16 * n) ∙ ap (λ (m : ℕ). replicate m 0) (left n short))
         ∙ simp append_assoc (rw (curves_are, segments_are))
       where
         left : (n : ℕ) → n ≤ 40 → 2560 - (1624 + 16 * n) ≡ 936 - 16 * n
         left n l = omega arith
 
-  -- the same for a head h that was read from the file
-  pub kept_by : (h : Head) → h ≡ head_of b → h.curves ≤ 8 → h.size ≤ 40 → (cleared out next last : List ℕ) → cleared ≡ zeros → out ≡ head_words h ++ drop 16 cleared
+  -- the same of an accepted file, for a head h that was read from it
+  pub kept_by : file_number b ≡ 0 → (h : Head) → h ≡ head_of b → {cleared out next last : List ℕ} → cleared ≡ zeros → out ≡ head_words h ++ drop 16 cleared
       → next ≡ take 16 out ++ (table entry_from (201 * h.curves) ++ drop (16 + 201 * h.curves) out) → last ≡ puts 16 segment_from 1624 h.size next
-      → last ≡ kept_words (network_of b) ++ drop 2560 ws
-  kept_by h is =
+      → last ≡ kept_words (network_of b)
+  kept_by accepted h is {out = out} {next} {last} z e =
       subst
-      (λ (h : Head).
-      h.curves ≤ 8 → h.size ≤ 40 → (cleared out next last : List ℕ) → cleared ≡ zeros → out ≡ head_words h ++ drop 16 cleared
+      (λ (h : Head). out ≡ head_words h ++ drop 16 zeros
       → next ≡ take 16 out ++ (table entry_from (201 * h.curves) ++ drop (16 + 201 * h.curves) out) → last ≡ puts 16 segment_from 1624 h.size next
-      → last ≡ kept_words (network_of b) ++ drop 2560 ws)
-      (sym is) (λ few short cleared out next last z e. all_kept few short out next last (e ∙ ap (λ (l : List ℕ). head_words (head_of b) ++ drop 16 l) z))
+      → last ≡ kept_words (network_of b))
+      (sym is) (all_kept (head_few b accepted) (head_short b accepted) out next last) (e ∙ ap (λ (l : List ℕ). head_words h ++ drop 16 l) z)

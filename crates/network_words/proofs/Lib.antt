@@ -1,2 +1,4 @@
 pub mod Differences
 pub mod KeepCall
+pub mod Parts
+pub mod Rows

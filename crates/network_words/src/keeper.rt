@@ -1,5 +1,5 @@
 // The parts of a file's network, written into words.
-ghost use Rattle.std.specs.Prelude.{◌≡◌, ◌+◌, ◌*◌, ◌≤◌, ◌++◌, length, take, drop, replicate};
+ghost use Rattle.std.specs.Prelude.{◌≡◌, ◌+◌, ◌*◌, ◌≤◌, ◌++◌, length, take, drop};
 ghost use Rattle.laws.specs.Lists.{table, puts};
 ghost use Rattle.laws.specs.BigEndian.{u32_at};
 ghost use Rattle.format.specs.File.{segment_on};
@@ -8,6 +8,7 @@ ghost use Rattle.format.specs.Words.{head_words, segment_words};
 use arrays::number;
 use format::{Head, Segment};
 
+#[tactic(auto, unfolding(format::specs::Words::head_words))]
 fn head_words(h: Head) -> [u64; 16]
     ensures { result ≡ head_words h }
 {
@@ -16,6 +17,7 @@ fn head_words(h: Head) -> [u64; 16]
     ]
 }
 
+#[tactic(auto, unfolding(format::specs::Words::segment_words))]
 fn segment_words(s: Segment) -> [u64; 16]
     ensures { result ≡ segment_words s }
 {
@@ -26,32 +28,12 @@ fn segment_words(s: Segment) -> [u64; 16]
     ]
 }
 
-// Each of these writes over the first words of the part that it is lent.
-pub(crate) fn put_zeros(words: &mut [u64], n: usize)
-    requires { n ≤ length words.old }
-    ensures { words.new ≡ replicate n 0 ++ drop n words.old }
-{
-    let mut i = 0;
-    while i < n {
-        words[i] = 0;
-        i += 1;
-    }
-}
-
+// Writes the head over the first words.
 pub(crate) fn put_head(words: &mut [u64], h: Head)
     requires { 16 ≤ length words.old }
     ensures { words.new ≡ head_words h ++ drop 16 words.old }
 {
-    let head = head_words(h);
-    arrays::put_words(&head, words);
-}
-
-fn put_segment(words: &mut [u64], s: Segment)
-    requires { 16 ≤ length words.old }
-    ensures { words.new ≡ segment_words s ++ drop 16 words.old }
-{
-    let segment = segment_words(s);
-    arrays::put_words(&segment, words);
+    words[..16].copy_from_slice(&head_words(h));
 }
 
 // Writes count entries, which stand in the file from byte 16 on, at word 16.
@@ -59,10 +41,8 @@ pub(crate) fn put_entries(file: &[u8], count: usize, words: &mut [u64])
     requires { (count ≤ 1608) × (16 + count ≤ length words.old) }
     ensures { words.new ≡ take 16 words.old ++ (table (λ m. u32_at file.now (16 + 4 * m)) count ++ drop (16 + count) words.old) }
 {
-    let mut m = 0;
-    while m < count {
+    for m in 0..count {
         words[16 + m] = number::u32_at(file, 16 + 4 * m);
-        m += 1;
     }
 }
 
@@ -71,11 +51,9 @@ pub(crate) fn put_segments(file: &[u8], n: usize, words: &mut [u64])
     requires { (n ≤ 40) × (1624 + 16 * n ≤ length words.old) }
     ensures { words.new ≡ puts 16 (λ i. segment_words (segment_on file.now i)) 1624 n words.old }
 {
-    let mut i = 0;
-    while i < n {
+    for i in 0..n {
         let to = 1624 + 16 * i;
         let s = network::segment_of(file, i as u32);
-        put_segment(&mut words[to..to + 16], s);
-        i += 1;
+        words[to..to + 16].copy_from_slice(&segment_words(s));
     }
 }

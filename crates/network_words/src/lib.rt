@@ -3,16 +3,20 @@
 #![tactic(auto)]
 
 mod judge; // judge.rt: the rows of a kept network
-mod origins; // origins.rt: row 28, and which segments have one before them
+mod origins; // origins.rt: row 28
 mod keeper; // keeper.rt: the parts of a file's network, written into words
 
 ghost use Rattle.std.specs.Prelude.{◌≡◌, ◌<◌, ◌≤◌, ◌++◌, length, drop, slice_index};
-ghost use Rattle.format.specs.Network.{has_before};
+ghost use Rattle.laws.specs.Refusal.{refused};
+ghost use Rattle.format.specs.Network.{goes_to, has_before};
 ghost use Rattle.format.specs.File.{file_number, network_of};
 ghost use Rattle.format.proofs.Accepted.{SegmentsKept};
 ghost use Rattle.format.specs.Words.{head_in, entry_in, segment_in, kept_number, kept_words};
 
+use crate::judge::Network;
+use crate::origins::Judged;
 use format::{Following, Head, Segment};
+use laws::Refusal;
 
 // The words of a kept network.
 pub const NETWORK_WORDS: usize = 2560;
@@ -21,13 +25,11 @@ pub const NETWORK_WORDS: usize = 2560;
 fn word_at(w: &[u64], i: usize) -> u64
     ensures { result ≡ slice_index w.now i }
 {
-    if i < w.len() {
-        return w[i];
-    }
-    0
+    w.get(i).copied().unwrap_or(0)
 }
 
 // The head of the network kept in words of any content; a word past their end reads as 0.
+#[tactic(auto, unfolding(format::specs::Words::head_in))]
 pub fn kept_head(kept: &[u64]) -> Head
     ensures { result ≡ head_in kept.now }
 {
@@ -44,6 +46,7 @@ pub fn kept_head(kept: &[u64]) -> Head
 }
 
 // Segment i, counted from 0, of the network kept in words of any content.
+#[tactic(auto, unfolding(format::specs::Words::segment_in))]
 pub fn kept_segment(kept: &[u64], i: u32) -> Segment
     ensures { result ≡ segment_in kept.now i }
 {
@@ -62,11 +65,12 @@ pub fn kept_segment(kept: &[u64], i: u32) -> Segment
         origin: word_at(kept, at + 5),
         exit: word_at(kept, at + 6),
         most: word_at(kept, at + 7),
-        following: following,
+        following,
     }
 }
 
 // Whether segment i has an origin, without a test of the length: every row of a run asks for all.
+#[tactic(auto, unfolding(format::specs::Words::segment_in))]
 pub fn kept_origin(kept: &[u64], i: usize) -> u64
     requires { (i < 40) × (2560 ≤ length kept.now) }
     ensures { result ≡ (segment_in kept.now i).origin }
@@ -74,16 +78,8 @@ pub fn kept_origin(kept: &[u64], i: usize) -> u64
     kept[1624 + 16 * i + 5]
 }
 
-// Whether some segment goes on to segment i, counted from 0, of a judged network.
-pub fn has_before(kept: &[u64], i: usize) -> bool
-    requires segments_kept { SegmentsKept kept.now (head_in kept.now) }
-    requires i_bound { i < (head_in kept.now).size }
-    ensures { result ≡ has_before (segment_in kept.now) (head_in kept.now).size i }
-{
-    origins::has_before(kept, i)
-}
-
-// What follows segment i, counted from 0.
+// What follows segment i, counted from 0, without a test of the length either.
+#[tactic(auto, unfolding(format::specs::Words::segment_in))]
 pub fn following_in(kept: &[u64], i: usize) -> Following
     requires { (2560 ≤ length kept.now) × (i < 40) }
     ensures { result ≡ (segment_in kept.now i).following }
@@ -96,8 +92,18 @@ pub fn following_in(kept: &[u64], i: usize) -> Following
     }
 }
 
-// Segment i, counted from 0, where the words are all there: no number of it is tested against their length, since every call judges all
-// segments and a step reads them.
+// Whether some segment goes on to segment i, counted from 0, of a judged network.
+pub fn has_before(kept: &[u64], i: usize) -> bool
+    requires segments_kept { SegmentsKept kept.now (head_in kept.now) }
+    requires i_bound { i < (head_in kept.now).size }
+    ensures { result ≡ has_before (segment_in kept.now) (head_in kept.now).size i }
+{
+    network::origins::has_before(&Judged { words: kept }, i as u32)
+}
+
+// Segment i, counted from 0, where the words are all there: kept_segment without its tests of the length, which cost, since every call
+// judges all segments and a step reads them.
+#[tactic(auto, unfolding(format::specs::Words::segment_in))]
 pub fn segment_in(kept: &[u64], i: usize) -> Segment
     requires { (2560 ≤ length kept.now) × (i < 40) }
     ensures { result ≡ segment_in kept.now i }
@@ -113,7 +119,7 @@ pub fn segment_in(kept: &[u64], i: usize) -> Segment
         origin: kept[at + 5],
         exit: kept[at + 6],
         most: kept[at + 7],
-        following: following,
+        following,
     }
 }
 
@@ -124,26 +130,32 @@ pub fn kept_entry(kept: &[u64], k: u32, j: u32) -> u64
     word_at(kept, 16 + 201 * (k as usize) + (j as usize))
 }
 
-// The number that refuses the network kept in these words: 11 where they are too few, then the rows, or 0.
-pub fn kept_number(kept: &[u64]) -> u64
-    ensures { result ≡ kept_number kept.now }
+// Why the network kept in these words is refused: row 11 where they are too few, then the rows of a network.
+#[tactic(auto, using(crate::proofs::Rows::kept_rows), unfolding(format::specs::Words::kept_number, laws::specs::First::row))]
+pub fn check(kept: &[u64]) -> Result<(), Refusal>
+    ensures { refused result ≡ kept_number kept.now }
 {
     if kept.len() < NETWORK_WORDS {
-        return 11;
+        return Err(Refusal::ShortArrays);
     }
-    judge::rows_number(kept)
+    let head = kept_head(kept);
+    judge::check_head(head)?;
+    let net = Network { words: kept, head };
+    net.check_curves()?;
+    net.check_segments()?;
+    net.check_origins()
 }
 
 // Keeps the network of an accepted file in the first 2,560 words; later words stay.
+#[tactic(auto, using(crate::proofs::KeepCall::keep_lengths))]
 pub fn keep(file: &[u8], words: &mut [u64])
     requires { (file_number file.now ≡ 0) × (2560 ≤ length words.old) }
     ensures { words.new ≡ kept_words (network_of file.now) ++ drop 2560 words.old }
 {
     let h = network::head_of(file);
-    let c = h.curves as usize;
-    let n = h.size as usize;
-    keeper::put_zeros(words, NETWORK_WORDS);
-    keeper::put_head(words, h);
-    keeper::put_entries(file, 201 * c, words);
-    keeper::put_segments(file, n, words);
+    let kept = &mut words[..NETWORK_WORDS];
+    kept.fill(0);
+    keeper::put_head(kept, h);
+    keeper::put_entries(file, 201 * (h.curves as usize), kept);
+    keeper::put_segments(file, h.size as usize, kept);
 }

@@ -1,76 +1,46 @@
-// Row 28 of a network that is kept in words: a segment with neither a segment before it nor an origin.
-ghost use Rattle.std.specs.Prelude.{◌≡◌, ◌<◌, ◌≤◌, length};
+// Row 28 of a network that is kept in words: its segments, as crate network asks for them.
+ghost use Rattle.std.specs.Prelude.{◌≡◌};
+ghost use Rattle.laws.specs.Refusal.{refused};
 ghost use Rattle.laws.specs.First.{first_of};
-ghost use Rattle.format.specs.Network.{goes_to, has_before, origin_number};
+ghost use Rattle.format.specs.Network.{origin_number};
 ghost use Rattle.format.specs.Words.{head_in, segment_in};
 ghost use Rattle.format.proofs.Accepted.{SegmentsKept};
+ghost use Rattle.network_words.specs.Rows.{segment_row};
 
-// Whether segment k goes on to segment i, both counted from 0.
-fn goes_to(kept: &[u64], k: usize, i: usize) -> bool
-    requires { (2560 ≤ length kept.now) × (k < 40) × (i < 40) }
-    ensures { result ≡ goes_to i (segment_in kept.now k).following }
-{
-    let at = 1624 + 16 * k;
-    let number = i as u64 + 1;
-    (kept[at + 8] == number) | (kept[at + 9] == number)
+use crate::judge::Network;
+use format::Following;
+use laws::Refusal;
+use network::origins::{self, Segments};
+
+// The segments of a network that rows 7, 27 and 8 have judged.
+#[derive(Drop)]
+pub(crate) struct Judged<'a> {
+    pub(crate) words: &'a [u64],
+    ghost kept: { SegmentsKept words.now (head_in words.now) },
 }
 
-// Whether some segment goes on to segment i. By row 27 it is one below i; it is looked for from i - 1 downwards, since most often the
-// one just before goes on to it.
-pub(crate) fn has_before(kept: &[u64], i: usize) -> bool
-    requires segments_kept { SegmentsKept kept.now (head_in kept.now) }
-    requires i_bound { i < (head_in kept.now).size }
-    ensures { result ≡ has_before (segment_in kept.now) (head_in kept.now).size i }
-{
-    let mut k = i;
-    while 0 < k {
-        if goes_to(kept, k - 1, i) {
-            return true;
-        }
-        k -= 1;
+impl Segments for Judged<'_> {
+    ghost size = { λ n. (head_in n.words.now).size };
+
+    ghost segment = { λ n. segment_in n.words.now };
+
+    fn origin(&self, i: u32) -> u64 {
+        crate::kept_origin(self.words, i as usize)
     }
-    false
+
+    fn following(&self, k: u32) -> Following {
+        crate::following_in(self.words, k as usize)
+    }
 }
 
-fn origin_row(kept: &[u64], i: usize) -> u64
-    requires segments_kept { SegmentsKept kept.now (head_in kept.now) }
-    requires i_bound { i < (head_in kept.now).size }
-    ensures { result ≡ origin_number (segment_in kept.now) (head_in kept.now).size i }
-{
-    if crate::kept_origin(kept, i) != 0 {
-        return 0;
+impl Network<'_> {
+    // Row 28, of all segments.
+    #[tactic(auto, using(crate::proofs::Rows::origin_rows))]
+    pub(crate) fn check_origins(&self) -> Result<(), Refusal>
+        requires { first_of (segment_row self.now.words.now self.now.head) self.now.head.size ≡ 0 }
+        ensures { refused result ≡ first_of (origin_number (segment_in self.now.words.now) self.now.head.size) self.now.head.size }
+    {
+        let segments = Judged { words: self.words };
+        origins::check_origins(&segments, self.head.size as u32, self.head.version)
     }
-    if has_before(kept, i) {
-        return 0;
-    }
-    28
-}
-
-// Row 28, of the first n segments.
-fn first_rows(kept: &[u64], n: usize) -> u64
-    requires segments_kept { SegmentsKept kept.now (head_in kept.now) }
-    requires n_bound { n ≤ (head_in kept.now).size }
-    ensures { result ≡ first_of (origin_number (segment_in kept.now) (head_in kept.now).size) n }
-{
-    let mut i = 0;
-    while i < n {
-        let r = origin_row(kept, i);
-        if r != 0 {
-            return r;
-        }
-        i += 1;
-    }
-    0
-}
-
-// Row 28, of the kept head's n segments. The chain, which version 1 means, passes it.
-pub(crate) fn origin_rows(kept: &[u64], version: u64, n: usize) -> u64
-    requires segments_kept { SegmentsKept kept.now (head_in kept.now) }
-    requires version_value { (version ≡ (head_in kept.now).version) × (n ≡ (head_in kept.now).size) }
-    ensures { result ≡ first_of (origin_number (segment_in kept.now) n) n }
-{
-    if version == 1 {
-        return 0;
-    }
-    first_rows(kept, n)
 }

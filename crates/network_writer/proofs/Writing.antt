@@ -1,5 +1,5 @@
 -- What is written of a kept network: the head, then the entries, then the records, and the three put together.
-use Prim.Native.Nat.{ℕ, ◌+◌, ◌*◌}
+use Prim.Native.Nat.{ℕ, ◌+◌, ◌*◌, ◌≤◌}
 use mathlib.Core.Path.{◌≡◌, sym, ap, ◌∙◌, subst}
 use mathlib.Core.List.{List, ◌++◌, append_assoc}
 use lib.ListN.{length, get_or, take, drop, length-append}
@@ -14,10 +14,24 @@ use Rattle.format.specs.declared.Head.{Head}
 use Rattle.format.specs.Network.{network_from, entry_of, segment_of}
 use Rattle.format.specs.File.{record_size, file_size}
 use Rattle.format.specs.Written.{head_bytes, record_bytes, file_of}
-use Rattle.format.specs.Words.{head_in, entry_in, segment_in, network_in}
+use Rattle.format.specs.Words.{head_in, entry_in, segment_in, network_in, kept_number}
 use Rattle.format.proofs.Record.{long_bytes, record_is}
 use Rattle.format.proofs.Reading.{length-head_bytes}
+use Rattle.format.proofs.Keeping.{kept_head}
 use Rattle.format.proofs.From.{from_entry, from_segment}
+
+-- ---- the bounds of an accepted network's words
+
+pub words_long : (ws : List ℕ) → kept_number ws ≡ 0 → 2560 ≤ length ws
+words_long ws z = (kept_head ws z).long
+
+pub head_few : (ws : List ℕ) → kept_number ws ≡ 0 → (head_in ws).curves ≤ 8
+head_few ws z = (kept_head ws z).within.curves_high
+
+pub head_short : (ws : List ℕ) → kept_number ws ≡ 0 → (head_in ws).size ≤ 40
+head_short ws z = (kept_head ws z).within.size_high
+
+pub ruleset write_bounds = (words_long, head_few, head_short)
 
 module _ (ws : List ℕ) where
   -- the bytes of the entry that stands at word 16 + m, and the w bytes of record i

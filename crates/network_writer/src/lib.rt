@@ -13,6 +13,7 @@ ghost use Rattle.format.proofs.Record.{long_bytes};
 use arrays::number;
 use format::{Head, Segment};
 
+#[tactic(auto, unfolding(format::specs::Written::head_bytes))]
 fn head_bytes(h: Head) -> [u8; 16]
     ensures { result ≡ head_bytes h }
 {
@@ -37,7 +38,8 @@ fn head_bytes(h: Head) -> [u8; 16]
     ]
 }
 
-// The 20 bytes of a version 2 record; the first 16 of them are a version 1 record.
+// The 20 bytes of a version 2 record, one a line as the format lists them; the first 16 of them are a version 1 record.
+#[tactic(auto, unfolding(format::proofs::Record::long_bytes))]
 fn record_bytes(s: Segment) -> [u8; 20]
     ensures { result ≡ long_bytes s }
 {
@@ -66,22 +68,12 @@ fn record_bytes(s: Segment) -> [u8; 20]
     ]
 }
 
-// Each of these writes over the first bytes of the part that it is lent.
+// Writes over the first 16 bytes.
 fn put_head(out: &mut [u8], h: Head)
     requires { 16 ≤ length out.old }
     ensures { out.new ≡ head_bytes h ++ drop 16 out.old }
 {
-    let head = head_bytes(h);
-    out[0..16].copy_from_slice(&head);
-}
-
-// Writes the first w bytes of a record.
-fn put_record(out: &mut [u8], s: Segment, w: usize)
-    requires { (w ≤ 20) × (w ≤ length out.old) }
-    ensures { out.new ≡ take w (long_bytes s) ++ drop w out.old }
-{
-    let record = record_bytes(s);
-    out[0..w].copy_from_slice(&record[0..w]);
+    out[..16].copy_from_slice(&head_bytes(h));
 }
 
 // Writes count entries, which stand in the words from 16 on, at byte 16 of the file.
@@ -89,25 +81,21 @@ fn put_entries(kept: &[u64], count: usize, out: &mut [u8])
     requires { (16 + count ≤ length kept.now) × (count ≤ 1608) × (16 + 4 * count ≤ length out.old) }
     ensures { out.new ≡ puts 4 (λ j. u32_bytes (get_or kept.now (16 + j) 0)) 16 count out.old }
 {
-    let mut j = 0;
-    while j < count {
+    for j in 0..count {
         let at = 16 + 4 * j;
         number::put_u32(&mut out[at..at + 4], kept[16 + j]);
-        j += 1;
     }
 }
 
-// Writes n records of w bytes each from byte at on.
+// Writes n records from byte at on, of each its first w bytes.
 fn put_records(kept: &[u64], n: usize, w: usize, out: &mut [u8], at: usize)
     requires { (n ≤ 40) × (w ≤ 20) × (at + w * n ≤ length out.old) × (at ≤ 1000000) }
     ensures { out.new ≡ puts w (λ i. take w (long_bytes (segment_in kept.now i))) at n out.old }
 {
-    let mut i = 0;
-    while i < n {
+    for i in 0..n {
         let from = at + w * i;
-        let s = network_words::kept_segment(kept, i as u32);
-        put_record(&mut out[from..from + w], s, w);
-        i += 1;
+        let record = record_bytes(network_words::kept_segment(kept, i as u32));
+        out[from..from + w].copy_from_slice(&record[..w]);
     }
 }
 
@@ -119,7 +107,8 @@ pub fn file_size(h: Head) -> u64
     16 + 804 * h.curves + network::record_size(h) * h.size
 }
 
-// Writes the kept network, which kept_number accepts, as a file over the buffer's first bytes; later bytes stay.
+// Writes the kept network, which network_words::check accepts, as a file over the buffer's first bytes; later bytes stay.
+#[tactic(auto, using(crate::proofs::Writing::write_bounds))]
 pub fn write(kept: &[u64], out: &mut [u8])
     requires kept_value { kept_number kept.now ≡ 0 }
     requires kept_in_bounds { file_size (head_in kept.now) ≤ length out.old }

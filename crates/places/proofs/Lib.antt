@@ -1,1 +1,3 @@
-pub mod RuleLists
+pub mod Found
+pub mod Rows
+pub mod Told

@@ -1,19 +1,20 @@
 // Row 27, of what follows a segment: its rules, and where the follower stands that breaks one.
 ghost use Rattle.std.specs.Prelude.{◌≡◌, cond, ◌≤◌, get_or};
 ghost use Rattle.laws.specs.First.{first_held};
-ghost use Rattle.format.specs.Network.{follower_tests};
 ghost use Rattle.format.specs.File.{head_of, segment_on};
 ghost use Rattle.format.specs.Place.{follower_rules, follower_fields};
 
 use crate::rules;
-use format::{Following, Head};
 use network::rows;
 
 // Whether each rule of what follows segment i is broken.
-fn follower_rules(h: Head, i: u64, f: Following) -> [bool; 4]
+fn follower_rules(file: &[u8], i: u32) -> [bool; 4]
     requires { i ≤ 40 }
-    ensures { result ≡ follower_tests h i f }
+    ensures { result ≡ follower_rules file.now i }
 {
+    let h = network::head_of(file);
+    let f = network::segment_of(file, i).following;
+    let i = u64::from(i);
     [
         rows::not_higher(i, f.first) | rows::not_higher(i, f.second),
         (h.size < f.first) | (h.size < f.second),
@@ -27,44 +28,28 @@ pub(crate) fn follower_rule(file: &[u8], i: u32) -> u64
     requires { i ≤ 40 }
     ensures { result ≡ first_held (follower_rules file.now i) }
 {
-    let h = network::head_of(file);
-    let s = network::segment_of(file, i);
-    let rules = follower_rules(h, i as u64, s.following);
-    rules::first_held(&rules)
+    rules::first_held(&follower_rules(file, i))
 }
 
 // The byte of a record that has the first follower, or the second.
 fn byte_of(first: bool) -> u8
     ensures { result ≡ cond first 16 17 }
 {
-    if first {
-        return 16;
-    }
-    17
+    if first { 16 } else { 17 }
 }
 
 // The byte of its record that a rule of segment i is about.
-fn field_of(h: Head, i: u64, f: Following, rule: u64) -> u8
-    requires { i ≤ 40 }
-    ensures { result ≡ get_or (follower_fields h i f) rule 0 }
-{
-    let fields = [
-        byte_of(rows::not_higher(i, f.first)),
-        byte_of(h.size < f.first),
-        17,
-        17,
-    ];
-    if rule < 4 {
-        return fields[rule as usize];
-    }
-    0
-}
-
 pub(crate) fn follower_field(file: &[u8], i: u32, rule: u64) -> u8
     requires { i ≤ 40 }
     ensures { result ≡ get_or (follower_fields (head_of file.now) i (segment_on file.now i).following) rule 0 }
 {
     let h = network::head_of(file);
-    let s = network::segment_of(file, i);
-    field_of(h, i as u64, s.following, rule)
+    let f = network::segment_of(file, i).following;
+    let fields = [
+        byte_of(rows::not_higher(u64::from(i), f.first)),
+        byte_of(h.size < f.first),
+        17,
+        17,
+    ];
+    fields.get(rule as usize).copied().unwrap_or(0)
 }

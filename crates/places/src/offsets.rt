@@ -1,94 +1,66 @@
-// Part, rule and byte of a refusal, by the number that refuses.
+// Part, rule and byte of a refusal, by the row that refuses.
 ghost use Rattle.std.specs.Prelude.{◌≡◌, ◌≤◌};
-ghost use Rattle.format.proofs.PlaceParts.{part_of, rule_of, head_offset, field_of, offset_of};
+ghost use Rattle.laws.specs.Refusal.{number};
+ghost use Rattle.format.proofs.PlaceParts.{part_of, rule_of, field_of, offset_of};
 
 use crate::{followers, rules, search};
+use laws::Refusal;
 
-// The curve (6), the record (7, 8, 27) or the segment (28).
-pub(crate) fn part(file: &[u8], number: u64) -> u32
-    ensures { (result ≡ part_of file.now number) × (result ≤ 40) }
+// The curve (row 6), the segment that nothing enters (28) or the record (7, 8, 27).
+#[tactic(auto, unfolding(format::proofs::PlaceParts::part_of, laws::specs::First::row))]
+pub(crate) fn part(file: &[u8], why: Refusal) -> u32
+    ensures { (result ≡ part_of file.now (number why)) × (result ≤ 40) }
 {
-    if number == 6 {
-        return search::bad_entry(file) / 201;
+    match why {
+        Refusal::NoHead | Refusal::NoMark | Refusal::Version | Refusal::Head | Refusal::Length => 0,
+        Refusal::Curve => search::bad_entry(file) / 201,
+        Refusal::NothingEnters => search::bad_origin(file),
+        _ => search::bad_record(file),
     }
-    if number == 28 {
-        return search::bad_origin(file);
-    }
-    if 6 < number {
-        return search::bad_record(file);
-    }
-    0
 }
 
-// The rule that is broken (4, 7, 27) or the entry (6).
-pub(crate) fn rule(file: &[u8], number: u64, part: u32) -> u64
+// The rule that is broken (rows 4, 7, 27) or the entry of the curve (6).
+#[tactic(auto, unfolding(format::proofs::PlaceParts::rule_of, laws::specs::First::row))]
+pub(crate) fn rule(file: &[u8], why: Refusal, part: u32) -> u64
     requires { part ≤ 40 }
-    ensures { result ≡ rule_of file.now number part }
+    ensures { result ≡ rule_of file.now (number why) part }
 {
-    if number == 4 {
-        return rules::head_rule(file);
+    match why {
+        Refusal::Head => rules::head_rule(file),
+        Refusal::Curve => u64::from(search::bad_entry(file) % 201),
+        Refusal::Record => rules::record_rule(file, part),
+        Refusal::Followers => followers::follower_rule(file, part),
+        _ => 0,
     }
-    if number == 6 {
-        return (search::bad_entry(file) % 201) as u64;
-    }
-    if number == 7 {
-        return rules::record_rule(file, part);
-    }
-    if number == 27 {
-        return followers::follower_rule(file, part);
-    }
-    0
 }
 
-// Rows 1 to 5.
-fn head_offset(file: &[u8], number: u64, rule: u64) -> u64
-    ensures { result ≡ head_offset file.now number rule }
-{
-    if number == 1 {
-        return file.len() as u64;
-    }
-    if number == 2 {
-        return rules::mark_rule(file);
-    }
-    if number == 3 {
-        return 3;
-    }
-    if number == 4 {
-        return rules::head_field(rule) as u64;
-    }
-    if number == 5 {
-        return arrays::least(file.len(), network::size_said(file) as usize) as u64;
-    }
-    0
-}
-
-// Rows 7, 8, 27 and 28: the byte of the record.
-fn field(file: &[u8], number: u64, part: u32, rule: u64) -> u8
+// Where in its record the field of a rule stands (rows 7, 27, 28); row 8 is of the record's first field.
+#[tactic(auto, unfolding(format::proofs::PlaceParts::field_of, laws::specs::First::row))]
+fn field(file: &[u8], why: Refusal, part: u32, rule: u64) -> u8
     requires { part ≤ 40 }
-    ensures { result ≡ field_of file.now number part rule }
+    ensures { result ≡ field_of file.now (number why) part rule }
 {
-    if number == 7 {
-        return rules::record_field(rule);
+    match why {
+        Refusal::Record => rules::record_field(rule),
+        Refusal::Followers => followers::follower_field(file, part, rule),
+        Refusal::NothingEnters => 6,
+        _ => 0,
     }
-    if number == 27 {
-        return followers::follower_field(file, part, rule);
-    }
-    if number == 28 {
-        return 6;
-    }
-    0
 }
 
-// The byte.
-pub(crate) fn offset(file: &[u8], number: u64, part: u32, rule: u64) -> u64
+// The byte: where the file ends (rows 1 and 5), of the head (2 to 4), of a curve (6), of a record (the others).
+#[tactic(auto, unfolding(format::proofs::PlaceParts::offset_of, format::proofs::PlaceParts::head_offset, laws::specs::First::row))]
+pub(crate) fn offset(file: &[u8], why: Refusal, part: u32, rule: u64) -> u64
     requires { part ≤ 40 }
-    ensures { result ≡ offset_of file.now number part rule }
+    ensures { result ≡ offset_of file.now (number why) part rule }
 {
-    if number == 6 {
-        return 16 + 4 * (search::bad_entry(file) as u64);
+    match why {
+        Refusal::NoHead => file.len() as u64,
+        Refusal::NoMark => rules::mark_rule(file),
+        Refusal::Version => 3,
+        Refusal::Head => u64::from(rules::head_field(rule)),
+        Refusal::Length => network::size_said(file).min(file.len() as u64),
+        Refusal::Curve => 16 + 4 * u64::from(search::bad_entry(file)),
+        _ => network::record_start(file, part) + u64::from(field(file, why, part, rule)),
     }
-    if 6 < number {
-        return network::record_start(file, part) + field(file, number, part, rule) as u64;
-    }
-    head_offset(file, number, rule)
 }

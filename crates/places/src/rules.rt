@@ -1,7 +1,7 @@
-// The rules of rows 2, 4 and 7, one by one, in the order of their definitions, and the first that is broken.
-ghost use Rattle.std.specs.Prelude.{◌≡◌, [], ◌∷◌, ◌++◌, ltb, get_or};
+// The rules of rows 2, 4 and 7, one by one, in the order of their definitions, and the first that is broken. Crate network has the same
+// tests joined, for speed, and says only whether one is broken.
+ghost use Rattle.std.specs.Prelude.{◌≡◌, get_or};
 ghost use Rattle.laws.specs.First.{first_held};
-ghost use Rattle.format.specs.Network.{head_tests, segment_tests, share_tests};
 ghost use Rattle.format.specs.Placed.{mark_rules};
 ghost use Rattle.format.specs.Place.{head_rules, head_fields, record_rules, record_fields};
 
@@ -11,17 +11,11 @@ use arrays::number;
 pub(crate) fn first_held(tests: &[bool]) -> u64
     ensures { result ≡ first_held tests.now }
 {
-    let mut i = 0;
-    while i < tests.len() {
-        if tests[i] {
-            return i as u64;
-        }
-        i += 1;
-    }
-    i as u64
+    tests.iter().position(|t| *t).unwrap_or(tests.len()) as u64
 }
 
 // The first byte that is not the mark's, "FWN".
+#[tactic(auto, unfolding(laws::specs::Lists::table))]
 pub(crate) fn mark_rule(file: &[u8]) -> u64
     ensures { result ≡ first_held (mark_rules file.now) }
 {
@@ -33,10 +27,11 @@ pub(crate) fn mark_rule(file: &[u8]) -> u64
     first_held(&rules)
 }
 
-// Whether each rule of the head is broken, with the bytes 11, 14 and 15.
-fn head_rules(h: format::Head, z11: u64, z14: u64, z15: u64) -> [bool; 10]
-    ensures { result ≡ head_tests h ++ (ltb 0 z11 ∷ ltb 0 z14 ∷ ltb 0 z15 ∷ []) }
+// Whether each rule of the head is broken.
+fn head_rules(file: &[u8]) -> [bool; 10]
+    ensures { result ≡ head_rules file.now }
 {
+    let h = network::head_of(file);
     [
         arrays::outside(1, h.step, 60),
         arrays::outside(1, h.size, 40),
@@ -45,9 +40,9 @@ fn head_rules(h: format::Head, z11: u64, z14: u64, z15: u64) -> [bool; 10]
         200 < h.nu,
         arrays::outside(1, h.kappa, 200),
         1000 < h.delta,
-        0 < z11,
-        0 < z14,
-        0 < z15,
+        0 < number::byte_at(file, 11),
+        0 < number::byte_at(file, 14),
+        0 < number::byte_at(file, 15),
     ]
 }
 
@@ -55,12 +50,7 @@ fn head_rules(h: format::Head, z11: u64, z14: u64, z15: u64) -> [bool; 10]
 pub(crate) fn head_rule(file: &[u8]) -> u64
     ensures { result ≡ first_held (head_rules file.now) }
 {
-    let h = network::head_of(file);
-    let z11 = number::byte_at(file, 11);
-    let z14 = number::byte_at(file, 14);
-    let z15 = number::byte_at(file, 15);
-    let rules = head_rules(h, z11, z14, z15);
-    first_held(&rules)
+    first_held(&head_rules(file))
 }
 
 // The byte of the head that a rule is about.
@@ -68,23 +58,16 @@ pub(crate) fn head_field(rule: u64) -> u8
     ensures { result ≡ get_or head_fields rule 0 }
 {
     let fields = [5, 6, 7, 8, 9, 10, 12, 11, 14, 15];
-    if rule < 10 {
-        return fields[rule as usize];
-    }
-    0
+    fields.get(rule as usize).copied().unwrap_or(0)
 }
 
-// Whether each rule of record i is broken, with its bytes 7, 14 and 15.
-fn record_rules(
-    h: format::Head,
-    i: u64,
-    s: format::Segment,
-    z7: u64,
-    z14: u64,
-    z15: u64,
-) -> [bool; 17]
-    ensures { result ≡ segment_tests h i s ++ (ltb 0 z7 ∷ ltb 0 z14 ∷ ltb 0 z15 ∷ share_tests s) }
+// Whether each rule of record i is broken.
+fn record_rules(file: &[u8], i: u32) -> [bool; 17]
+    ensures { result ≡ record_rules file.now i }
 {
+    let at = network::record_start(file, i) as usize;
+    let h = network::head_of(file);
+    let s = network::segment_of(file, i);
     let f = s.following;
     [
         arrays::outside(100, s.metres, 2000),
@@ -99,9 +82,9 @@ fn record_rules(
         (f.first == 0) & (f.second == 0) & (0 < s.exit),
         (s.origin == 0) & (0 < s.most),
         (s.origin == 1) & arrays::outside(1, s.most, 300000),
-        0 < z7,
-        0 < z14,
-        0 < z15,
+        0 < number::byte_at(file, at + 7),
+        0 < number::byte_at(file, at + 14),
+        0 < number::byte_at(file, at + 15),
         1000 < f.share,
         (f.second == 0) & (f.share != 1000),
     ]
@@ -111,14 +94,7 @@ fn record_rules(
 pub(crate) fn record_rule(file: &[u8], i: u32) -> u64
     ensures { result ≡ first_held (record_rules file.now i) }
 {
-    let at = network::record_start(file, i) as usize;
-    let z7 = number::byte_at(file, at + 7);
-    let z14 = number::byte_at(file, at + 14);
-    let z15 = number::byte_at(file, at + 15);
-    let h = network::head_of(file);
-    let s = network::segment_of(file, i);
-    let rules = record_rules(h, i as u64, s, z7, z14, z15);
-    first_held(&rules)
+    first_held(&record_rules(file, i))
 }
 
 // The byte of a record that a rule is about.
@@ -126,8 +102,5 @@ pub(crate) fn record_field(rule: u64) -> u8
     ensures { result ≡ get_or record_fields rule 0 }
 {
     let fields = [0, 2, 3, 4, 4, 5, 6, 6, 8, 8, 10, 10, 7, 14, 15, 18, 18];
-    if rule < 17 {
-        return fields[rule as usize];
-    }
-    0
+    fields.get(rule as usize).copied().unwrap_or(0)
 }

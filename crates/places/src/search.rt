@@ -9,6 +9,7 @@ use crate::{followers, rules};
 use arrays::number;
 
 // Row 6, of entry j of curve k.
+#[tactic(auto, using(crate::proofs::Rows::entry_first, crate::proofs::Rows::entry_later))]
 fn entry_bad(file: &[u8], k: u32, j: u32) -> bool
     ensures { result ≡ entry_bad (entry_on file.now k) j }
 {
@@ -23,14 +24,9 @@ fn entry_bad(file: &[u8], k: u32, j: u32) -> bool
 pub(crate) fn bad_entry(file: &[u8]) -> u32
     ensures { (result ≡ bad_entry file.now) × (result ≤ 1608) }
 {
-    let mut m = 0;
-    while m < 1608 {
-        if entry_bad(file, m / 201, m % 201) {
-            return m;
-        }
-        m += 1;
-    }
-    m
+    (0..1608)
+        .find(|m| entry_bad(file, *m / 201, *m % 201))
+        .unwrap_or(1608)
 }
 
 // Row 8, of record i.
@@ -38,86 +34,56 @@ fn too_short(file: &[u8], i: u32) -> bool
     ensures { result ≡ too_short file.now i }
 {
     let at = network::record_start(file, i) as usize;
-    let metres = number::byte_at(file, at) * 256 + number::byte_at(file, at + 1);
+    let metres = number::u16_at(file, at);
     let k = number::byte_at(file, at + 3) as u32;
     let step = number::byte_at(file, 5);
     3600 * metres < network::entry_of(file, k, 0) * step
 }
 
 // Rows 7, 27 and 8, of record i.
+#[tactic(auto, using(format::proofs::PlaceParts::record_refused, laws::proofs::Search::any_held))]
 fn record_bad(file: &[u8], i: u32) -> bool
     requires { i ≤ 40 }
     ensures { result ≡ ltb 0 (record_number file.now (head_of file.now) i) }
 {
-    if rules::record_rule(file, i) < 17 {
-        return true;
-    }
-    if followers::follower_rule(file, i) < 4 {
-        return true;
-    }
-    too_short(file, i)
+    rules::record_rule(file, i) < 17 || followers::follower_rule(file, i) < 4 || too_short(file, i)
 }
 
 // The first record that rows 7, 27 and 8 refuse, and 40 where they refuse none.
 pub(crate) fn bad_record(file: &[u8]) -> u32
     ensures { (result ≡ bad_record file.now) × (result ≤ 40) }
 {
-    let mut i = 0;
-    while i < 40 {
-        if record_bad(file, i) {
-            return i;
-        }
-        i += 1;
-    }
-    i
+    (0..40).find(|i| record_bad(file, *i)).unwrap_or(40)
 }
 
 // Whether segment k goes on to segment i.
 fn goes_to(file: &[u8], k: u32, i: u32) -> bool
     ensures { result ≡ goes_to i (segment_on file.now k).following }
 {
-    let s = network::segment_of(file, k);
-    let f = s.following;
-    let number = i as u64 + 1;
-    (f.first == number) | (f.second == number)
+    let f = network::segment_of(file, k).following;
+    let number = u64::from(i) + 1;
+    f.first == number || f.second == number
 }
 
 // Whether one of the first n segments goes on to segment i.
 fn has_before(file: &[u8], n: u32, i: u32) -> bool
     ensures { result ≡ has_before (segment_on file.now) n i }
 {
-    let mut j = n;
-    while 0 < j {
-        let k = j - 1;
-        if goes_to(file, k, i) {
-            return true;
-        }
-        j = k;
-    }
-    false
+    (0..n).any(|k| goes_to(file, k, i))
 }
 
 // Row 28, of segment i.
+#[tactic(auto, using(crate::proofs::Rows::origin_refused))]
 fn origin_bad(file: &[u8], i: u32) -> bool
     ensures { result ≡ ltb 0 (origin_number (segment_on file.now) (head_of file.now).size i) }
 {
-    let s = network::segment_of(file, i);
-    if s.origin != 0 {
-        return false;
-    }
-    !has_before(file, number::byte_at(file, 6) as u32, i)
+    network::segment_of(file, i).origin == 0
+        && !has_before(file, number::byte_at(file, 6) as u32, i)
 }
 
 // The first segment that row 28 refuses, and 40 where it refuses none.
 pub(crate) fn bad_origin(file: &[u8]) -> u32
     ensures { (result ≡ bad_origin file.now) × (result ≤ 40) }
 {
-    let mut i = 0;
-    while i < 40 {
-        if origin_bad(file, i) {
-            return i;
-        }
-        i += 1;
-    }
-    i
+    (0..40).find(|i| origin_bad(file, *i)).unwrap_or(40)
 }

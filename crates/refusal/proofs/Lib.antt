@@ -1,4 +1,5 @@
 pub mod Asking
+pub mod Rows
 pub mod Settings
 pub mod Slots
 pub mod Starting

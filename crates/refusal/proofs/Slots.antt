@@ -1,15 +1,13 @@
--- Hold, Recall and Drop: which row refuses them, and what their acceptance says.
+-- What acceptance of Hold, Recall and Drop says.
 use Prim.Native.Nat.{ℕ, ◌+◌, ◌≤◌}
 use mathlib.Core.Path.{◌≡◌, refl, sym, ap, ◌∙◌, subst}
-use mathlib.Core.Bool.{Bool, true, false, ◌&&◌, not}
+use mathlib.Core.Bool.{true, false}
 use mathlib.Core.List.{List}
-use lib.Dec.{eqb}
 use lib.ListN.{get_or, set}
 use lib.Ieee.{Float}
-use borrow.Author.Tests.{le-leb, eq-eqb, ne_eqb}
-use Rattle.laws.proofs.First.{row_applies, row_skipped, row_passed}
-use Rattle.laws.proofs.Tests.{inside_low, inside_high}
-use Rattle.book.specs.Arrangement.{slots, size_at, mark_at, filled_at}
+use Rattle.laws.proofs.First.{row_passed}
+use Rattle.laws.proofs.Tests.{inside_high}
+use Rattle.book.specs.Arrangement.{slots, size_at}
 use Rattle.book.specs.Sound.{sound}
 use Rattle.book.specs.Calls.{hold, recall, drop_slot}
 use Rattle.book.specs.Refusal.{refusal, slot_refusal}
@@ -29,35 +27,6 @@ module _ (words : List ℕ) (speeds : List Float) (k : ℕ) where
   pub drop_as_recall : refusal_at (drop_slot k) a ≡ refusal_at (recall k) a
   unfolding refusal_at refusal
   drop_as_recall = refl
-
-  module _ (s : sound words speeds ≡ true) where
-    pub hold_missing : outside 1 k slots ≡ true → 21 ≡ refusal_at (hold k) a
-    unfolding refusal
-    hold_missing m = sym (judged (hold k) words speeds refl s ∙ row_applies _ _ _ m)
-
-    pub recall_missing : outside 1 k slots ≡ true → 21 ≡ refusal_at (recall k) a
-    unfolding refusal slot_refusal
-    recall_missing m = sym (judged (recall k) words speeds refl s ∙ row_applies _ _ _ m)
-
-    module _ (there : outside 1 k slots ≡ false) where
-      marked : {b : Bool} → eqb (mark_at words k) 1 ≡ b → filled_at words k ≡ b
-      marked e = (λ j. le-leb _ _ (inside_low 1 k 6 there) j && le-leb _ _ (inside_high 1 k 6 there) j && eqb (mark_at words k) 1) ∙ e
-
-      pub hold-filled : mark_at words k ≡ 1 → 22 ≡ refusal_at (hold k) a
-      unfolding refusal
-      hold-filled e = sym (judged (hold k) words speeds refl s ∙ row_skipped _ _ _ there ∙ row_applies _ _ _ (marked (eq-eqb _ _ e)))
-
-      pub hold_free : (mark_at words k ≡ 1 → ⊥) → 0 ≡ refusal_at (hold k) a
-      unfolding refusal
-      hold_free e = sym (judged (hold k) words speeds refl s ∙ row_skipped _ _ _ there ∙ row_skipped _ _ _ (marked (ne_eqb _ _ e)))
-
-      pub recall-empty : (mark_at words k ≡ 1 → ⊥) → 23 ≡ refusal_at (recall k) a
-      unfolding refusal slot_refusal
-      recall-empty e = sym (judged (recall k) words speeds refl s ∙ row_skipped _ _ _ there ∙ row_applies _ _ _ (λ j. not (marked (ne_eqb _ _ e) j)))
-
-      pub recall-filled : mark_at words k ≡ 1 → 0 ≡ refusal_at (recall k) a
-      unfolding refusal slot_refusal
-      recall-filled e = sym (judged (recall k) words speeds refl s ∙ row_skipped _ _ _ there ∙ row_skipped _ _ _ (λ j. not (marked (eq-eqb _ _ e) j)))
 
   -- ---- what acceptance says
 

@@ -1,15 +1,16 @@
--- Start: which row refuses it, and what acceptance says.
-use Prim.Native.Nat.{ℕ, ◌≤◌, ◌<◌}
+-- Start: its rows, and what acceptance says.
+use Prim.Native.Nat.{ℕ, zero, suc, ◌≤◌, ◌<◌}
 use mathlib.Core.Path.{◌≡◌, refl, sym, ap, ◌∙◌, subst}
-use mathlib.Core.Bool.{Bool, true, false, ◌||◌, not}
-use mathlib.Core.List.{List, [], ◌∷◌}
+use mathlib.Core.Bool.{Bool, false, ◌||◌, not}
+use mathlib.Core.List.{List}
+use native.Mathlib.Omega.{arith}
 use lib.Dec.{ltb, eqb, lit<}
 use lib.ListN.{length, get_or}
 use lib.Ieee.{Float}
-use borrow.Author.Tests.{ltb-false, eqb-true, not-false}
-use Rattle.laws.specs.First.{any_of, row, first, first_of}
-use Rattle.laws.proofs.First.{row_applies, row_skipped, row_passed, row_later, first_some, first_zero, first_zero_left, first_zero_right, first_of_ext}
-use Rattle.laws.proofs.Tests.{or_left, or_right, any_of_false}
+use borrow.Author.Tests.{ltb-false}
+use Rattle.laws.specs.First.{any_of, or_from, row, first, first_of}
+use Rattle.laws.proofs.First.{row_skipped, row_passed, row_later, first_zero_left, first_zero_right, first_of_ext}
+use Rattle.laws.proofs.Tests.{or_left, or_right}
 use Rattle.format.specs.declared.Segment.{Segment}
 use Rattle.format.specs.Network.{network_from, entry_of, segment_of}
 use Rattle.format.specs.File.{head_of, segment_on, entry_on, network_of, file_number}
@@ -22,6 +23,11 @@ use Rattle.metanet.specs.Start.{start_segment_number, start_number}
 use Rattle.book.specs.Refusal.{refusal}
 use Rattle.book.specs.Perform.{lent, refusal_at}
 use Rattle.refusal.specs.Ready.{start_number_on, Listed}
+
+-- the lists are not all as long as the network
+abbrev pub uneven : List ℕ → List ℕ → List ℕ → List ℕ → Bool
+uneven b mvs speeds queues =
+    let n = (head_of b).size in not (eqb (length mvs) n) || not (eqb (length speeds) n) || not (eqb (length queues) n)
 
 module _ (b : List ℕ) (z : file_number b ≡ 0) where
   pub same_segment : (i : ℕ) → i < (head_of b).size → segment_of (network_of b) i ≡ segment_on b i
@@ -43,66 +49,56 @@ module _ (b : List ℕ) (z : file_number b ≡ 0) where
         ∙ ap (λ (F : ℕ). start_segment_number (segment_on b i) F (get_or mvs i 0) (get_or speeds i 0) (get_or queues i 0))
         (from_entry (head_of b) (entry_on b) (segment_on b) (segment_on b i).curve 0 (segment_on_lem i l).curve_high (lit< tt))
 
-    abbrev pub uneven : Bool
-    uneven = any_of (not (eqb (length mvs) (head_of b).size) ∷ not (eqb (length speeds) (head_of b).size) ∷ not (eqb (length queues) (head_of b).size) ∷ [])
-
     -- lists of the network's length
-    pub lists_even : uneven ≡ false → Listed b mvs speeds queues
-    lists_even e =
-        let no = any_of_false _ e in
-        record {
-          file = z;
-          mvs_many = eqb-true _ _ (not-false _ (no 0));
-          speeds_many = eqb-true _ _ (not-false _ (no 1));
-          queues_many = eqb-true _ _ (not-false _ (no 2));
-        }
+    lists_even : uneven b mvs speeds queues ≡ false → Listed b mvs speeds queues
+    lists_even e = record { file = z; mvs_many = grind arith; speeds_many = grind arith; queues_many = grind arith }
 
-    lists_are : start_number (network_of b) mvs speeds queues ≡ row uneven 13 (first_of (start_number_on b mvs speeds queues) (head_of b).size)
-    unfolding start_number network_from
-    lists_are = ap (row uneven 13) (first_of_ext _ (start_number_on b mvs speeds queues) (head_of b).size same_number)
+    pub listed_row : row (uneven b mvs speeds queues) 13 0 ≡ 0 → (row (uneven b mvs speeds queues) 13 0 ≡ 0) × Listed b mvs speeds queues
+    listed_row e = (e, lists_even (row_passed _ _ _ e))
 
--- ---- the number of the call
+    lists_are : start_number (network_of b) mvs speeds queues ≡ row (uneven b mvs speeds queues) 13 (first_of (start_number_on b mvs speeds queues) (head_of b).size)
+    unfolding start_number network_from any_of or_from
+    lists_are = ap (row (uneven b mvs speeds queues) 13) (first_of_ext _ (start_number_on b mvs speeds queues) (head_of b).size same_number)
+
+-- ---- the call
 module _ (words : List ℕ) (lentSpeeds : List Float) (b mvs speeds queues : List ℕ) where
   abbrev number : ℕ
   number = refusal_at (start b mvs speeds queues) (lent words lentSpeeds)
 
-  abbrev pub short : Bool
+  abbrev short : Bool
   short = ltb (length words) (words_for (head_of b).size) || ltb (length lentSpeeds) (speeds_for (head_of b).size)
 
   number_is : number ≡ first (file_number b) (row short 11 (start_number (network_of b) mvs speeds queues))
   unfolding refusal_at refusal network_from
   number_is = row_skipped _ _ _ refl
 
-  pub file-refused : {r : ℕ} → r ≡ file_number b → (r ≡ 0 → ⊥) → r ≡ number
-  file-refused e some = e ∙ sym (number_is ∙ first_some _ _ (λ z. some (e ∙ z)))
-
-  module _ (z : file_number b ≡ 0) where
-    pub arrays_short : short ≡ true → 11 ≡ number
-    arrays_short s = sym (number_is ∙ first_zero _ _ z ∙ row_applies _ _ _ s)
-
-    module _ (s : short ≡ false) where
-      lists_number : number ≡ row (uneven b z mvs speeds queues) 13 (first_of (start_number_on b mvs speeds queues) (head_of b).size)
-      lists_number = number_is ∙ first_zero _ _ z ∙ row_skipped _ _ _ s ∙ lists_are b z mvs speeds queues
-
-      pub lists_uneven : uneven b z mvs speeds queues ≡ true → 13 ≡ number
-      lists_uneven u = sym (lists_number ∙ row_applies _ _ _ u)
-
-      pub segments_judged : {r : ℕ} → uneven b z mvs speeds queues ≡ false → r ≡ first_of (start_number_on b mvs speeds queues) (head_of b).size → r ≡ number
-      segments_judged u e = e ∙ sym (lists_number ∙ row_skipped _ _ _ u)
+  -- the file's rows, then 11, 13 and 14
+  pub start_rows : number ≡ first (file_number b) (row short 11 (row (uneven b mvs speeds queues) 13 (first_of (start_number_on b mvs speeds queues) (head_of b).size)))
+  unfolding first
+  start_rows = number_is ∙ go (file_number b) refl
+    where
+      go : (m : ℕ) → file_number b ≡ m
+          → first m (row short 11 (start_number (network_of b) mvs speeds queues))
+          ≡ first m (row short 11 (row (uneven b mvs speeds queues) 13 (first_of (start_number_on b mvs speeds queues) (head_of b).size)))
+      go zero z = ap (row short 11) (lists_are b z mvs speeds queues)
+      go (suc m) z = refl
 
   -- ---- what acceptance says
   module _ (q : number ≡ 0) where
     pub start-file : file_number b ≡ 0
     start-file = first_zero_left _ _ (sym number_is ∙ q)
 
-    later : row short 11 (start_number (network_of b) mvs speeds queues) ≡ 0
-    later = first_zero_right (file_number b) _ (sym number_is ∙ q)
+    later : row short 11 (row (uneven b mvs speeds queues) 13 (first_of (start_number_on b mvs speeds queues) (head_of b).size)) ≡ 0
+    later = first_zero_right (file_number b) _ (sym start_rows ∙ q)
+
+    long : short ≡ false
+    long = row_passed _ _ _ later
 
     pub start-room : words_for (head_of b).size ≤ length words
-    start-room = ltb-false _ _ (or_left (ltb (length words) (words_for (head_of b).size)) _ (row_passed _ _ _ later))
+    start-room = ltb-false _ _ (or_left (ltb (length words) (words_for (head_of b).size)) _ long)
 
     pub start-speeds-room : speeds_for (head_of b).size ≤ length lentSpeeds
-    start-speeds-room = ltb-false _ _ (or_right (ltb (length words) (words_for (head_of b).size)) (ltb (length lentSpeeds) (speeds_for (head_of b).size)) (row_passed _ _ _ later))
+    start-speeds-room = ltb-false _ _ (or_right (ltb (length words) (words_for (head_of b).size)) _ long)
 
     pub start_listed : Listed b mvs speeds queues
-    start_listed = lists_even b start-file mvs speeds queues (row_passed _ _ _ (sym (lists_are b start-file mvs speeds queues) ∙ row_later _ _ _ later))
+    start_listed = lists_even b start-file mvs speeds queues (row_passed _ _ _ (row_later _ _ _ later))

@@ -1,16 +1,16 @@
--- Step: which row refuses it, and what acceptance says.
-use Prim.Native.Nat.{ℕ, ◌+◌, ◌*◌, ◌<◌}
+-- Step: its rows, and what acceptance says.
+use Prim.Native.Nat.{ℕ, zero, suc, ◌+◌, ◌*◌, ◌<◌}
 use mathlib.Core.Path.{◌≡◌, refl, sym, ap, ◌∙◌, subst}
-use mathlib.Core.Bool.{Bool, true, false, not, ◌||◌}
+use mathlib.Core.Bool.{Bool, true, false, not}
 use mathlib.Core.List.{List}
 use native.Mathlib.Omega.{arith}
 use native.Mathlib.Nat.{zero-mul}
-use lib.Dec.{leb}
+use lib.Dec.{leb, eqb}
 use lib.ListN.{length, get_or}
 use lib.Ieee.{Float}
-use borrow.Author.Tests.{leb-false, eq-eqb, ne_eqb}
+use borrow.Author.Tests.{leb-false, eq-eqb}
 use Rattle.laws.specs.First.{row, first, first_of}
-use Rattle.laws.proofs.First.{row_applies, row_skipped, row_passed, first_some, first_zero, first_zero_left, first_zero_right}
+use Rattle.laws.proofs.First.{row_applies, row_skipped, row_passed, first_zero_left, first_zero_right}
 use Rattle.format.specs.Network.{entry_of, segment_of}
 use Rattle.format.specs.Words.{head_in, entry_in, segment_in}
 use Rattle.metanet.specs.Words.{net_of, case_in}
@@ -25,16 +25,38 @@ use Rattle.book.specs.Refusal.{refusal, item_number}
 use Rattle.book.specs.Perform.{lent, refusal_at}
 use Rattle.book.proofs.Judging.{placed, case_judged}
 use Rattle.book.proofs.Sounds.{laid, live-sound}
-use Rattle.book.proofs.Performing.{judged}
-use Rattle.book.proofs.Rows.{live_word}
+use Rattle.book.proofs.Performing.{judged, unsound}
+use Rattle.book.proofs.Rows.{RowReady, live_number, live_word, row_sound, row_unsound}
+use Rattle.book.proofs.Network.{size_word}
 use Rattle.book.specs.Calls.{item}
 use Rattle.metanet.specs.Line.{stepped}
+use Rattle.refusal.specs.Ready.{late_number}
+
+-- S, m and the totals refuse by 12 alone
+one_more : (m : ℕ) (b : Bool) → first m 12 ≡ 12 → first (first m (row b 12 0)) 12 ≡ 12
+unfolding first row
+one_more zero true e = refl
+one_more zero false e = refl
+one_more (suc m) b e = e
+
+all_twelve : (bad : ℕ → Bool) (n : ℕ) → first (first_of (λ i. row (bad i) 12 0) n) 12 ≡ 12
+unfolding first first_of
+all_twelve bad zero = refl
+all_twelve bad (suc n) = one_more _ (bad n) (all_twelve bad n)
+
+-- the two rows of 16
+rows_last : (t : Bool) (a : ℕ) (u v : Bool) → first (row t 13 (first a (row u 16 0))) (row v 16 0) ≡ row t 13 (first a (row u 16 (row v 16 0)))
+unfolding row first
+rows_last true a u v = refl
+rows_last false zero true v = refl
+rows_last false zero false v = refl
+rows_last false (suc m) u v = refl
 
 module _ (words : List ℕ) (speeds : List Float) (ds : List ℕ) where
   abbrev net : List ℕ
   net = net_of words
 
-  abbrev pub steps_word : ℕ
+  abbrev steps_word : ℕ
   steps_word = get_or words (2576 + 16 * size_at words) 0
 
   steps_are : (case_at words speeds 0).steps ≡ steps_word
@@ -51,45 +73,6 @@ module _ (words : List ℕ) (speeds : List Float) (ds : List ℕ) where
     number_is =
         judged (item (stepped ds)) words speeds refl s
         ∙ ap (λ (x : ℕ). first x (row (leb 1000000 (run_count_at words)) 16 0)) (ap (λ (t : ℕ). step_number (network_at words).head (entry_of (network_at words)) (segment_of (network_at words)) t ds) steps_are ∙ same_number steps_word)
-
-    -- 13
-    pub unlisted : (length ds ≡ size_at words → ⊥) → 13 ≡ refusal_at (item (stepped ds)) (lent words speeds)
-    unfolding step_number first
-    unlisted other = sym (number_is ∙ ap (λ (x : ℕ). first x (row (leb 1000000 (run_count_at words)) 16 0)) (row_applies _ _ _ (ap not (ne_eqb _ _ other))))
-
-    -- as many arrivals as segments
-    module _ {n : ℕ} (size : n ≡ size_at words) (listed : length ds ≡ n) where
-      abbrev arrivals : ℕ
-      arrivals = first_of (arrival_number_in net ds) n
-
-      row_is : refusal_at (item (stepped ds)) (lent words speeds) ≡ first (first arrivals (row (leb 20000 steps_word) 16 0)) (row (leb 1000000 (run_count_at words)) 16 0)
-      unfolding step_number
-      row_is =
-          number_is
-          ∙ ap (λ (x : ℕ). first x (row (leb 1000000 (run_count_at words)) 16 0))
-          (row_skipped _ _ _ (ap not (eq-eqb _ _ (listed ∙ size)))
-          ∙ ap (λ (m : ℕ). first (first_of (arrival_number_in net ds) m) (row (leb 20000 steps_word) 16 0)) (sym size))
-
-      -- 15
-      pub arrival_refused : {r : ℕ} → r ≡ arrivals → (r ≡ 0 → ⊥) → r ≡ refusal_at (item (stepped ds)) (lent words speeds)
-      arrival_refused {r} e some =
-          let found : first arrivals (row (leb 20000 steps_word) 16 0) ≡ r = first_some _ _ (λ z. some (e ∙ z)) ∙ sym e in
-          sym (row_is ∙ first_some _ _ (λ z. some (sym found ∙ z)) ∙ found)
-
-      -- 16, and none
-      module _ (z : arrivals ≡ 0) where
-        rest : refusal_at (item (stepped ds)) (lent words speeds) ≡ row (leb 20000 steps_word || leb 1000000 (run_count_at words)) 16 0
-        rest = row_is ∙ ap (λ (x : ℕ). first x (row (leb 1000000 (run_count_at words)) 16 0)) (first_zero _ _ z) ∙ either (leb 20000 steps_word) (leb 1000000 (run_count_at words))
-          where
-            either : (a b : Bool) → first (row a 16 0) (row b 16 0) ≡ row (a || b) 16 0
-            either true b = unfold first row in refl
-            either false b = unfold first row in refl
-
-        pub steps_spent : (leb 20000 steps_word || leb 1000000 (run_count_at words)) ≡ true → 16 ≡ refusal_at (item (stepped ds)) (lent words speeds)
-        steps_spent e = sym (rest ∙ row_applies _ _ _ e)
-
-        pub step_taken : (leb 20000 steps_word || leb 1000000 (run_count_at words)) ≡ false → 0 ≡ refusal_at (item (stepped ds)) (lent words speeds)
-        step_taken e = sym (rest ∙ row_skipped _ _ _ e)
 
     -- ---- what acceptance says
     module _ (q : refusal_at (item (stepped ds)) (lent words speeds) ≡ 0) where
@@ -123,3 +106,37 @@ module _ (words : List ℕ) (speeds : List Float) (ds : List ℕ) where
         step_totals =
             subst (λ (m : ℕ). TotalsOk words (2576 + 16 * m)) (sym size)
             (subst (λ (p : ℕ). TotalsOk words (p + 16 * size_at words)) (live_word (size_at words)) totals_ready)
+
+-- ---- its rows, with n where the code reads it
+
+module _ (words : List ℕ) (speeds : List Float) (ds : List ℕ) where
+  -- 12 and 13, then 15 and 16
+  pub step_rows : refusal_at (item (stepped ds)) (lent words speeds)
+      ≡ row (not (sound words speeds)) 12 (row (not (eqb (length ds) (get_or words 1 0))) 13 (late_number words ds (get_or words 1 0)))
+  unfolding step_number late_number
+  step_rows =
+      go (sound words speeds) refl
+      ∙ ap (λ (n : ℕ). row (not (sound words speeds)) 12 (row (not (eqb (length ds) n)) 13 (late_number words ds n))) (size_word words)
+    where
+      go : (b : Bool) → sound words speeds ≡ b → refusal_at (item (stepped ds)) (lent words speeds) ≡ row (not b) 12 (row (not (eqb (length ds) (size_at words))) 13 (late_number words ds (size_at words)))
+      go true s =
+          number_is words speeds ds s
+          ∙ rows_last (not (eqb (length ds) (size_at words))) (first_of (arrival_number_in (net_of words) ds) (size_at words)) (leb 20000 (steps_word words speeds ds)) (leb 1000000 (run_count_at words))
+          ∙ sym (row_skipped _ _ _ refl)
+      go false s = sym (row_applies _ _ _ refl ∙ unsound (item (stepped ds)) words speeds refl s)
+
+  -- a row of a run: 12 by S, m and the totals alone, then 15 and 16
+  pub row_rows : {n : ℕ} → RowReady words speeds n → length ds ≡ n → refusal_at (item (stepped ds)) (lent words speeds) ≡ first (live_number words n) (late_number words ds n)
+  unfolding first
+  row_rows {n} r listed = step_rows ∙ go (live_number words n) refl (one_more _ _ (all_twelve _ n))
+    where
+      size : n ≡ get_or words 1 0
+      size = r.laid.size ∙ size_word words
+
+      go : (m : ℕ) → live_number words n ≡ m → first m 12 ≡ 12
+          → row (not (sound words speeds)) 12 (row (not (eqb (length ds) (get_or words 1 0))) 13 (late_number words ds (get_or words 1 0))) ≡ first m (late_number words ds n)
+      go zero e t =
+          row_skipped _ _ _ (ap not (row_sound r e))
+          ∙ row_skipped _ _ _ (ap not (eq-eqb _ _ (listed ∙ size)))
+          ∙ ap (late_number words ds) (sym size)
+      go (suc m) e t = row_applies _ _ _ (ap not (row_unsound r (λ z. omega (arith, e, z)))) ∙ sym t

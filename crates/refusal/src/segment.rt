@@ -9,6 +9,7 @@ ghost use Rattle.book.specs.Arrangement.{network_at, size_at};
 use format::Segment;
 
 // 17: segment outside 1..n.
+#[tactic(auto, using(book::proofs::Network::size_kept))]
 pub fn segment_missing(words: &[u64], i: u64) -> bool
     ensures { result ≡ outside 1 i (size_at words.now) }
 {
@@ -17,6 +18,7 @@ pub fn segment_missing(words: &[u64], i: u64) -> bool
 }
 
 // Segment i of the network in the words.
+#[tactic(auto, using(book::proofs::Network::segment_kept))]
 pub fn segment_at(words: &[u64], i: u64) -> Segment
     requires { (2560 ≤ length words.now) × (1 ≤ i) × (i ≤ size_at words.now) × (i ≤ 40) }
     ensures { result ≡ segment_of (network_at words.now) (i - 1) }
@@ -25,6 +27,7 @@ pub fn segment_at(words: &[u64], i: u64) -> Segment
 }
 
 // 19: segment i has no ramp, which is an origin with a segment before it.
+#[tactic(auto, using(metanet::proofs::SameNetwork::ramp_from))]
 pub fn ramp_missing(words: &[u64], i: u64) -> bool
     requires { NetworkOk words.now × (2560 ≤ length words.now) × (1 ≤ i) × (i ≤ size_at words.now) }
     ensures { result ≡ not (ramp_at (network_at words.now) (i - 1)) }

@@ -1,2 +1,2 @@
 pub mod Reporting
-pub mod Writing
+pub mod Sound

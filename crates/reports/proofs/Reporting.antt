@@ -1,7 +1,10 @@
 -- Which row refuses a question about a case, and that the figures read in the words are those of the case.
-use Rattle.std.proofs.Common.{◌≡◌, ℕ, ◌+◌, ◌*◌, ◌<◌, ◌≤◌, not, T, List, [], ◌∷◌, get_or, drop, sym, ap, ◌∙◌, le_trans, le_of_eq, arith, lit<, get_or-drop}
+use Rattle.std.proofs.Common.{◌≡◌, ℕ, ◌+◌, ◌-◌, ◌*◌, Option, ◌<◌, ◌≤◌, not, T, List, [], ◌∷◌, length, get_or, drop, Ok, sym, refl, ap, ◌∙◌, le_trans, le_of_eq, arith, lit<, get_or-drop}
 use lib.Ieee.{Float, nan, inf, fin, is_nan, lt}
+use Rattle.laws.specs.declared.Refusal.{Refusal}
+use Rattle.laws.specs.Refusal.{number}
 use Rattle.laws.specs.Sums.{sum_of}
+use Rattle.laws.proofs.Refused.{number_some}
 use Rattle.laws.proofs.Reals.{Truncates}
 use Rattle.laws.proofs.Sums.{sum_ext}
 use Rattle.format.specs.declared.Head.{Head}
@@ -15,19 +18,22 @@ use Rattle.metanet.proofs.Ready.{StateOk, CaseAt}
 use Rattle.metanet.proofs.InWords.{case_number_in}
 use Rattle.metanet.proofs.SegmentLaws.{segment_ok, truncating_speed}
 use Rattle.metanet.proofs.SoundLaws.{state_read, case_state}
-use Rattle.book.specs.declared.CaseReport.TheVariants as caseReport
+use Rattle.book.specs.declared.CaseFigures.{CaseFigures}
 use Rattle.book.specs.declared.SegmentFigures.{SegmentFigures}
-use Rattle.book.specs.declared.SegmentReport.TheVariants as segmentReport
 use Rattle.book.specs.Arrangement.{case_word, case_speed, network_at, size_at, case_at}
 use Rattle.metanet.specs.Report.{case_figures, segment_figures}
 use Rattle.metanet.specs.Sound.{mv_most}
-use Rattle.metanet.specs.Drain.{drain_time, time_figures, drain_figures}
+use Rattle.metanet.specs.Drain.{DrainTime, drain_time, time_figures, drain_figures}
 use Rattle.case_words.specs.Sums.{figure_at, Summable}
-use Rattle.reports.specs.Figures.{figures_at, state_figures, Showable}
+use Rattle.reports.specs.Figures.{figures_at, state_figures, Readable}
 use Rattle.refusal.specs.Ready.{Reportable}
 use Rattle.book.proofs.Judging.{placed, size_high, case_judged}
 use Rattle.book.proofs.Network.{head_kept, segment_kept}
-use Rattle.book.specs.Question.{case_says, segment_says, figures, Answer}
+use Rattle.book.specs.Calls.{Call, question}
+use Rattle.book.specs.Perform.{lent, refusal_at, stored, answer_of, Performs}
+use Rattle.book.specs.Question.{CaseQuestion, totals, segment, drain, of_case, case_says, segment_says, time_of, drain_says, figures_for, figures_asked, figures, refused, Answer}
+use Rattle.book.proofs.Performing.{refuses, accepts}
+use Rattle.refusal.proofs.Asking.{reportable, segment_low, segment_high, drain-taken}
 
 -- ---- the figures
 
@@ -66,12 +72,18 @@ module _ {words : List ℕ} {speeds : List Float} {n k : ℕ} (p : Reportable wo
   state_of_lem : (i : ℕ) → i < n → StateOk (segment_in (net_of words) i) (entry_in (net_of words) (segment_in (net_of words) i).curve 0) (state_at words speeds at from i)
   state_of_lem = case_state place zeroed
 
-  -- the speed of segment i
-  pub showable : (i : ℕ) → i < n → Showable (get_or speeds (from + i) nan)
+  pub readable : (i : ℕ) → i < n → Readable words speeds n k i
   unfolding state_in
-  showable i l =
+  readable i l =
       let t = truncating_speed (segment_ok p.laid.net i (omega (arith, p.laid.size))) (state_of_lem i l).flowing.speed in
-      record { above = t.above; under = t.under; number = is_a_number _ t }
+      record {
+        many = size_high p.laid;
+        inside = l;
+        network = omega (arith, p.laid.room);
+        state = omega (arith, place.room);
+        speed = omega (arith, place.speed_room);
+        shown = record { above = t.above; under = t.under; number = is_a_number _ t };
+      }
 
   pub counts_summable : Summable words at 0 n
   unfolding state_in
@@ -94,7 +106,7 @@ module _ {words : List ℕ} {speeds : List Float} {n k : ℕ} (p : Reportable wo
       }
 
   -- the figures of the case
-  pub case_shown : case_says (caseReport.Figures (figures_at words at n)) ≡ figures (case_figures (network_at words) (case_at words speeds k))
+  pub case_shown : case_says (Ok (figures_at words at n)) ≡ figures (case_figures (network_at words) (case_at words speeds k))
   unfolding figures_at case_figures case_in
   case_shown =
       (λ j. figures (
@@ -125,9 +137,9 @@ module _ {words : List ℕ} {speeds : List Float} {n k : ℕ} (p : Reportable wo
         ∙ ap (λ (m : ℕ). f (segment_of (network_at words) i) (state_of (states_in words speeds (case_word m k) (case_speed m k) m) i)) p.laid.size
 
     -- the figures of segment i
-    pub segment_shown : segment_says (segmentReport.Figures read) ≡ figures (segment_figures (network_at words) (case_at words speeds k) i)
+    pub segment_shown : segment_says (Ok read) ≡ figures (segment_figures (network_at words) (case_at words speeds k) i)
     unfolding state_figures segment_figures
-    segment_shown = of_case_lem (λ s r. segment_says (segmentReport.Figures (state_figures s r)))
+    segment_shown = of_case_lem (λ s r. segment_says (Ok (state_figures s r)))
 
     -- how long its queue takes to drain
     pub drain_shown : time_figures (drain_time read.rate read.queue) ≡ drain_figures (network_at words) (case_at words speeds k) i
@@ -137,3 +149,89 @@ module _ {words : List ℕ} {speeds : List Float} {n k : ℕ} (p : Reportable wo
     pub queue_high : read.queue ≤ mv_most
     unfolding state_figures
     queue_high = (state_of_lem i l).queue
+
+-- ---- a question that is refused
+
+pub refused_by : (c : Call) (words : List ℕ) (speeds : List Float) (why : Refusal) → number why ≡ refusal_at c (lent words speeds)
+    → Performs c words speeds (refused (number why)) words speeds
+refused_by c words speeds why is = refuses c words speeds is (number_some why)
+
+module _ (words : List ℕ) (speeds : List Float) (k : ℕ) where
+  -- ---- a question about case k that is accepted
+
+  module _ (q : CaseQuestion) (is : 0 ≡ refusal_at (question (of_case k q)) (lent words speeds)) where
+    case_taken : Reportable words speeds (get_or words 1 0) k
+    case_taken = reportable words speeds k q (sym is)
+
+    pub words_long : 2576 ≤ length words
+    words_long = omega (arith, case_taken.laid.room)
+
+    answers_it : {answer : Answer} → answer ≡ figures (figures_for q (network_at words) (case_at words speeds k)) → Performs (question (of_case k q)) words speeds answer words speeds
+    unfolding answer_of figures_asked stored
+    answers_it said = accepts (question (of_case k q)) words speeds (sym is) said refl refl
+
+  -- the report of the case
+  module _ (is : 0 ≡ refusal_at (question (of_case k totals)) (lent words speeds)) where
+    pub case_high : k ≤ 6
+    case_high = (case_taken totals is).high
+
+    pub case_counts : Summable words (case_word (get_or words 1 0) k) 0 (get_or words 1 0)
+    case_counts = counts_summable (case_taken totals is)
+
+    pub case_queues : Summable words (case_word (get_or words 1 0) k) 1 (get_or words 1 0)
+    case_queues = queues_summable (case_taken totals is)
+
+    pub case_answered : (f : CaseFigures) → f ≡ figures_at words (case_word (get_or words 1 0) k) (get_or words 1 0)
+        → Performs (question (of_case k totals)) words speeds (case_says (Ok f)) words speeds
+    unfolding figures_for
+    case_answered f read =
+        answers_it totals is (ap (λ (g : CaseFigures). case_says (Ok g)) read ∙ case_shown (case_taken totals is))
+
+  module _ (i : ℕ) where
+    abbrev read_there : SegmentFigures
+    read_there = state_figures (segment_in (net_of words) (i - 1)) (state_at words speeds (case_word (get_or words 1 0) k) (case_speed (get_or words 1 0) k) (i - 1))
+
+    -- the report of segment i
+    module _ (is : 0 ≡ refusal_at (question (of_case k (segment i))) (lent words speeds)) where
+      segment_inside : i - 1 < get_or words 1 0
+      segment_inside = omega (arith, segment_low words speeds k i (sym is), segment_high words speeds k i (sym is))
+
+      pub segment_above : 1 ≤ i
+      segment_above = segment_low words speeds k i (sym is)
+
+      pub segment_readable : Readable words speeds (get_or words 1 0) k (i - 1)
+      segment_readable = readable (case_taken (segment i) is) (i - 1) segment_inside
+
+      pub segment_answered : (f : SegmentFigures) → f ≡ read_there → Performs (question (of_case k (segment i))) words speeds (segment_says (Ok f)) words speeds
+      unfolding figures_for
+      segment_answered f read =
+          answers_it (segment i) is (ap (λ (g : SegmentFigures). segment_says (Ok g)) read ∙ segment_shown (case_taken (segment i) is) (i - 1) segment_inside)
+
+    -- how long its queue takes to drain: the report of the segment would be given
+    module _ (is : 0 ≡ refusal_at (question (of_case k (drain i))) (lent words speeds)) where
+      reported : 0 ≡ refusal_at (question (of_case k (segment i))) (lent words speeds)
+      reported = sym (drain-taken words speeds k i (sym is))
+
+      pub drain_above : 1 ≤ i
+      drain_above = segment_above reported
+
+      pub drain_readable : Readable words speeds (get_or words 1 0) k (i - 1)
+      drain_readable = segment_readable reported
+
+      pub drain_queue : read_there.queue ≤ mv_most
+      drain_queue = queue_high (case_taken (segment i) reported) (i - 1) (segment_inside reported)
+
+      pub drain_answered : (f : SegmentFigures) (t : Option ℕ) → time_of t ≡ drain_time f.rate f.queue → f ≡ read_there
+          → Performs (question (of_case k (drain i))) words speeds (drain_says (Ok t)) words speeds
+      unfolding figures_for
+      drain_answered f t said read =
+          answers_it (drain i) is
+          (ap (λ (x : DrainTime). figures (time_figures x)) (said ∙ ap (λ (g : SegmentFigures). drain_time g.rate g.queue) read)
+          ∙ ap figures (drain_shown (case_taken (segment i) reported) (i - 1) (segment_inside reported)))
+
+-- what each question's function needs
+pub ruleset asked_case = (refused_by, words_long, case_high, case_counts, case_queues, case_answered)
+
+pub ruleset asked_segment = (refused_by, words_long, segment_above, segment_answered)
+
+pub ruleset asked_drain = (refused_by, words_long, drain_above, drain_queue, drain_answered)

@@ -1,20 +1,20 @@
 // The figures that a report gives.
-ghost use Rattle.std.specs.Prelude.{◌≡◌, ◌<◌, ◌≤◌, length, if◌then◌else◌, nat_eq};
+ghost use Rattle.std.specs.Prelude.{◌≡◌, ◌≤◌, length, if◌then◌else◌, nat_eq};
 ghost use Rattle.format.specs.Words.{segment_in};
 ghost use Rattle.metanet.specs.Case.{open_kind};
 ghost use Rattle.metanet.specs.Words.{net_of, state_in, state_at};
 ghost use Rattle.metanet.specs.Sound.{mv_most};
-ghost use Rattle.metanet.specs.Drain.{drain_time, time_figures};
+ghost use Rattle.metanet.specs.Drain.{drain_time};
 ghost use Rattle.book.specs.Arrangement.{case_word, case_speed};
-ghost use Rattle.book.specs.Question.{figures, drain_says};
+ghost use Rattle.book.specs.Question.{time_of};
 ghost use Rattle.case_words.specs.Sums.{Summable};
-ghost use Rattle.reports.specs.Figures.{figures_at, state_figures, Showable};
-ghost use Rattle.refusal.specs.Ready.{Reportable};
+ghost use Rattle.reports.specs.Figures.{figures_at, state_figures, Showable, Readable};
 
-use book::{CaseFigures, DrainReport, SegmentFigures};
+use book::{CaseFigures, SegmentFigures};
 use format::Segment;
 
 // The figures of case k.
+#[tactic(auto, unfolding(crate::specs::Figures::figures_at))]
 pub(crate) fn case_figures(words: &[u64], n: usize, k: usize) -> CaseFigures
     requires k_bound { k ≤ 6 }
     requires summable { Summable words.now (case_word n k) 0 n }
@@ -37,13 +37,11 @@ pub(crate) fn case_figures(words: &[u64], n: usize, k: usize) -> CaseFigures
 fn rate_of(kind: u64, most: u64, rate: u64) -> u64
     ensures { result ≡ (if nat_eq kind open_kind then most else rate) }
 {
-    if kind == 0 {
-        return most;
-    }
-    rate
+    if kind == 0 { most } else { rate }
 }
 
 // The figures of the segment s, whose state starts these words and whose speed is v.
+#[tactic(auto, unfolding(crate::specs::Figures::state_figures, metanet::specs::Step::rate_of, metanet::specs::Words::state_in))]
 fn state_figures(s: Segment, w: &[u64], v: f64) -> SegmentFigures
     requires in_bounds { 16 ≤ length w.now }
     requires showable { Showable v }
@@ -68,8 +66,7 @@ pub(crate) fn segment_figures(
     k: usize,
     i: usize,
 ) -> SegmentFigures
-    requires reportable { Reportable words.now speeds.now n k }
-    requires i_lt_n { i < n }
+    requires { Readable words.now speeds.now n k i }
     ensures { result ≡ state_figures (segment_in (net_of words.now) i) (state_at words.now speeds.now (case_word n k) (case_speed n k) i) }
 {
     let a = case_words::FIRST_CASE + k * (16 * n + 8) + 16 * i;
@@ -78,16 +75,14 @@ pub(crate) fn segment_figures(
     state_figures(s, &words[a..], speeds[b])
 }
 
-// How long a queue takes to drain at a rate, in mv and mv a step.
-pub(crate) fn drain_time(rate: u64, queue: u64) -> DrainReport
+// How many steps a queue takes to drain at a rate, in mv and mv a step; None where it never does.
+#[tactic(auto, unfolding(metanet::specs::Drain::drain_time))]
+pub(crate) fn drain_time(rate: u64, queue: u64) -> Option<u64>
     requires { queue ≤ mv_most }
-    ensures { drain_says result ≡ figures (time_figures (drain_time rate queue)) }
+    ensures { time_of result ≡ drain_time rate queue }
 {
     if queue == 0 {
-        return DrainReport::Steps(0);
+        return Some(0);
     }
-    if rate == 0 {
-        return DrainReport::Never;
-    }
-    DrainReport::Steps(queue / rate + 1)
+    Some(queue.checked_div(rate)? + 1)
 }

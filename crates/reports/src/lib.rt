@@ -1,77 +1,75 @@
-// The questions about a study, and Write.
+// The questions about a study, and Write. Words and speeds stay two parameters: they are the two arrays that C lends.
 #![tactic(auto)]
 
 mod figures; // figures.rt: the figures that a report gives
 
 ghost use Rattle.std.specs.Prelude.{◌≡◌};
-ghost use Rattle.book.specs.Question.{totals, segment, drain, of_case, run_count, case_says, segment_says, drain_says, run_says};
+ghost use Rattle.book.specs.Question.{totals, segment, drain, of_case, run_count, case_says, segment_says, drain_says, count_says};
 ghost use Rattle.book.specs.Calls.{question};
 ghost use Rattle.book.specs.Perform.{Performs};
-ghost use Rattle.book.specs.Write.{written_bytes, write_answer, written_says};
+ghost use Rattle.book.specs.Write.{written_bytes, write_answer};
 
-use book::{CaseReport, DrainReport, RunReport, SegmentReport, Written};
+use book::{CaseFigures, SegmentFigures};
+use laws::Refusal;
 use refusal::calls;
 
 // Report of case k: 0 is the live one, 1..6 are the slots.
-pub fn report(words: &[u64], speeds: &[f64], k: u64) -> CaseReport
+#[tactic(auto, using(crate::proofs::Reporting::asked_case))]
+pub fn report(words: &[u64], speeds: &[f64], k: u64) -> Result<CaseFigures, Refusal>
     ensures { Performs (question (of_case k totals)) words.now speeds.now (case_says result) words.now speeds.now }
 {
-    let r = calls::case_number(words, speeds, k);
-    if r != 0 {
-        return CaseReport::Refused(r);
-    }
-    CaseReport::Figures(figures::case_figures(words, words[1] as usize, k as usize))
+    calls::check_case(words, speeds, k)?;
+    Ok(figures::case_figures(words, words[1] as usize, k as usize))
 }
 
 // Report of segment i, 1..n, of case k.
-pub fn report_segment(words: &[u64], speeds: &[f64], k: u64, i: u64) -> SegmentReport
+#[tactic(auto, using(crate::proofs::Reporting::asked_segment))]
+pub fn report_segment(
+    words: &[u64],
+    speeds: &[f64],
+    k: u64,
+    i: u64,
+) -> Result<SegmentFigures, Refusal>
     ensures { Performs (question (of_case k (segment i))) words.now speeds.now (segment_says result) words.now speeds.now }
 {
-    let r = calls::segment_number(words, speeds, k, i);
-    if r != 0 {
-        return SegmentReport::Refused(r);
-    }
+    calls::check_segment(words, speeds, k, i)?;
     let n = words[1] as usize;
-    SegmentReport::Figures(figures::segment_figures(words, speeds, n, k as usize, (i - 1) as usize))
+    Ok(figures::segment_figures(words, speeds, n, k as usize, (i - 1) as usize))
 }
 
-// How long the queue of segment i, 1..n, of case k takes to drain.
-pub fn drain(words: &[u64], speeds: &[f64], k: u64, i: u64) -> DrainReport
+// How many steps the queue of segment i, 1..n, of case k takes to drain; None where it never does.
+#[tactic(auto, using(crate::proofs::Reporting::asked_drain))]
+pub fn drain(words: &[u64], speeds: &[f64], k: u64, i: u64) -> Result<Option<u64>, Refusal>
     ensures { Performs (question (of_case k (drain i))) words.now speeds.now (drain_says result) words.now speeds.now }
 {
-    let r = calls::drain_number(words, speeds, k, i);
-    if r != 0 {
-        return DrainReport::Refused(r);
-    }
+    calls::check_drain(words, speeds, k, i)?;
     let n = words[1] as usize;
     let f = figures::segment_figures(words, speeds, n, k as usize, (i - 1) as usize);
-    figures::drain_time(f.rate, f.queue)
+    Ok(figures::drain_time(f.rate, f.queue))
 }
 
 // The run count: accepted steps since Start.
-pub fn run_count(words: &[u64], speeds: &[f64]) -> RunReport
-    ensures { Performs (question run_count) words.now speeds.now (run_says result) words.now speeds.now }
+#[tactic(auto, using(crate::proofs::Sound::counts))]
+pub fn run_count(words: &[u64], speeds: &[f64]) -> Result<u64, Refusal>
+    ensures { Performs (question run_count) words.now speeds.now (count_says result) words.now speeds.now }
 {
-    if !sound::sound(words, speeds) {
-        return RunReport::Refused(12);
-    }
-    RunReport::Count(words[case_words::RUN_WORD])
+    sound::check(words, speeds)?;
+    Ok(words[case_words::RUN_WORD])
 }
 
-// Writes the stored network as a file from the buffer's first byte on; later bytes stay. A refused call leaves the buffer as it came.
-pub fn write(words: &[u64], speeds: &[f64], out: &mut [u8]) -> Written
-    ensures result_value { written_says result ≡ write_answer words.now speeds.now out.old }
+// Writes the stored network as a file from the buffer's first byte on, and says how many bytes that is; later bytes stay. A refused call
+// leaves the buffer as it came.
+#[tactic(auto, using(crate::proofs::Sound::writes), unfolding(laws::specs::First::row, laws::specs::First::if_accepted, format::specs::Network::network_from, book::specs::Write::write_refusal, book::specs::Write::write_answer, book::specs::Write::written_bytes,),)]
+pub fn write(words: &[u64], speeds: &[f64], out: &mut [u8]) -> Result<u64, Refusal>
+    ensures result_value { count_says result ≡ write_answer words.now speeds.now out.old }
     ensures out_after { out.new ≡ written_bytes words.now speeds.now out.old }
 {
-    if !sound::sound(words, speeds) {
-        return Written::Refused(12);
-    }
+    sound::check(words, speeds)?;
     let net = &words[..network_words::NETWORK_WORDS];
-    let h = network_words::kept_head(net);
-    let size = network_writer::file_size(h);
+    let size = network_writer::file_size(network_words::kept_head(net));
     if (out.len() as u64) < size {
-        return Written::Refused(24);
+        return Err(Refusal::NoRoom);
     }
     network_writer::write(net, out);
-    Written::Bytes(size)
+    Ok(size)
 }

@@ -1,17 +1,16 @@
 // What bounds an origin beside its queue and its rate: a mainstream one the speed, a ramp the room in the segment.
-ghost use Rattle.std.specs.Prelude.{◌≡◌, ◌<◌, ◌≤◌, length};
+ghost use Rattle.std.specs.Prelude.{◌≡◌, ◌≤◌};
 ghost use Rattle.format.specs.Words.{entry_in};
-ghost use Rattle.format.proofs.Accepted.{HeadWithin, CurveWithin};
 ghost use Rattle.metanet.specs.Flow.{limiting_speed, limiting_density, speed_bound};
-ghost use Rattle.metanet.specs.Speed.{area};
 ghost use Rattle.metanet.specs.Step.{origin_bound};
-ghost use Rattle.metanet.proofs.Ready.{SegmentOk, SignOk, StateOk};
+ghost use Rattle.metanet.proofs.Ready.{SignOk, StateOk};
 
 use crate::flow;
-use format::{Head, Segment};
+use crate::site::Site;
 use metanet::{SegmentState, SignSetting};
 
 // y: the lesser of s and the speed of a shown sign, m/h.
+#[tactic(auto, unfolding(metanet::specs::Flow::limiting_speed))]
 fn limiting_speed(s: u64, sign: SignSetting) -> u64
     requires { SignOk sign }
     ensures { result ≡ limiting_speed s sign }
@@ -19,70 +18,45 @@ fn limiting_speed(s: u64, sign: SignSetting) -> u64
     if sign.limit == 0 {
         return s;
     }
-    let shown = flow::sign_speed(sign);
-    if shown < s {
-        return shown;
-    }
-    s
+    s.min(flow::sign_speed(sign))
 }
 
-// g: the greatest density up to jam whose entry on curve k is at least y, where that of low is. By halves, as entries never rise: past g
-// there are left densities that may serve. How often it turns does not depend on y.
-fn limiting_density(net: &[u64], k: u64, low: u64, jam: u64, y: u64) -> u64
-    requires k_bound { (k < 8) × (low ≤ jam) × (jam ≤ 200) × (2560 ≤ length net.now) }
-    requires curve_within { CurveWithin (entry_in net.now k) }
-    requires y_bound { y ≤ entry_in net.now k low }
-    ensures { (result ≡ limiting_density (entry_in net.now k) jam y) × (result ≤ 200) }
-{
-    let first = 16 + 201 * (k as usize);
-    let mut g = low;
-    let mut left = jam - low;
-    while 0 < left {
-        let half = (left + 1) / 2;
-        let mid = g + half;
-        let at = first + (mid as usize);
-        if y <= net[at] {
-            g = mid;
+impl Site<'_> {
+    // g: the greatest density up to J whose entry is at least y, where that of C is. Entries never rise, so it is found by halves among
+    // those past C; how often that turns does not depend on y.
+    fn limiting_density(&self, y: u64) -> u64
+        requires { y ≤ entry_in self.now.net.now self.now.own.curve self.now.own.critical }
+        ensures { (result ≡ limiting_density (entry_in self.now.net.now self.now.own.curve) self.now.own.jam y) × (result ≤ 200) }
+    {
+        let s = self.own;
+        let zero = 16 + 201 * (s.curve as usize);
+        let past = &self.net[zero + s.critical as usize + 1..zero + s.jam as usize + 1];
+        s.critical + past.partition_point(|e| y <= *e) as u64
+    }
+
+    // The most mv that a mainstream origin lets in at y m/h.
+    fn speed_bound(&self, y: u64) -> u64
+        ensures { result ≡ speed_bound self.now.head (entry_in self.now.net.now self.now.own.curve) self.now.own y }
+    {
+        let s = self.own;
+        if y < self.entry(s.critical as u32) {
+            let g = self.limiting_density(y);
+            return s.lanes * y * g * self.head.step / 3600;
         }
-        left = left - half;
+        s.most
     }
-    g
-}
 
-// The most mv that a mainstream origin lets in at y m/h.
-fn speed_bound(net: &[u64], h: Head, s: Segment, y: u64) -> u64
-    requires head_within { HeadWithin h }
-    requires lanes_bound { (s.lanes ≤ 8) × (s.curve < 8) × (s.critical < s.jam) × (s.jam ≤ 200) × (2560 ≤ length net.now) }
-    requires curve_within { CurveWithin (entry_in net.now s.curve) }
-    ensures { result ≡ speed_bound h (entry_in net.now s.curve) s y }
-{
-    if y < network_words::kept_entry(net, s.curve as u32, s.critical as u32) {
-        let g = limiting_density(net, s.curve, s.critical, s.jam, y);
-        return s.lanes * y * g * h.step / 3600;
+    // The most mv that its origin lets in, in the state r.
+    #[tactic(auto, unfolding(metanet::specs::Step::origin_bound))]
+    pub(crate) fn origin_bound(&self, mainstream: bool, r: SegmentState) -> u64
+        requires { StateOk self.now.own (entry_in self.now.net.now self.now.own.curve 0) r }
+        ensures { result ≡ origin_bound mainstream self.now.head (entry_in self.now.net.now self.now.own.curve) self.now.own r }
+    {
+        if mainstream {
+            let sign = r.sign;
+            let y = limiting_speed(self.whole_speed(r), sign);
+            return self.speed_bound(y);
+        }
+        self.jam_bound(r.count)
     }
-    s.most
-}
-
-// The most mv that an origin lets in, on an area g.
-pub(crate) fn origin_bound(
-    net: &[u64],
-    mainstream: bool,
-    h: Head,
-    s: Segment,
-    r: SegmentState,
-    g: u64,
-) -> u64
-    requires g_value { (g ≡ area s) × (0 < g) × (g ≤ 16000) × (2560 ≤ length net.now) }
-    requires head_within { HeadWithin h }
-    requires segment_ok { SegmentOk h s (entry_in net.now s.curve 0) }
-    requires state_ok { StateOk s (entry_in net.now s.curve 0) r }
-    requires curve_within { CurveWithin (entry_in net.now s.curve) }
-    ensures { result ≡ origin_bound mainstream h (entry_in net.now s.curve) s r }
-{
-    if mainstream {
-        let sign = r.sign;
-        let y = limiting_speed(std::num::truncating_f64_to_u64(r.speed), sign);
-        return speed_bound(net, h, s, y);
-    }
-    flow::jam_bound(s.most, s.jam, s.critical, g, r.count)
 }

@@ -43,6 +43,7 @@ pub fn first_part(rest: u64, share: u64) -> u64
 }
 
 // u, of a segment at speed v.
+#[tactic(auto, unfolding(metanet::specs::Junction::entry_speed))]
 pub(crate) fn entry_speed(e: Entry, v: f64) -> f64
     requires { e.outflows ≤ 100000000000000 }
     ensures { result ≡ entry_speed e v }
@@ -60,6 +61,7 @@ pub(crate) fn entry_speed(e: Entry, v: f64) -> f64
 }
 
 // ρ' where there are two followers, of densities x and y.
+#[tactic(auto, unfolding(metanet::specs::Junction::two_after))]
 pub(crate) fn two_after(x: f64, y: f64) -> f64
     ensures { result ≡ two_after x y }
 {

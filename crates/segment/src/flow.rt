@@ -1,9 +1,10 @@
-// Rates, releases and flows of one segment, in mv.
-ghost use Rattle.std.specs.Prelude.{◌≡◌, ◌*◌, ◌/◌, ◌<◌, ◌≤◌, min, max};
-ghost use Rattle.metanet.specs.Flow.{jam_bound, sign_speed, alinea_rate, release_of, outflow_of, exit_part};
+// Rates and flows of one segment, in mv.
+ghost use Rattle.std.specs.Prelude.{◌≡◌, ◌*◌, ◌/◌, ◌<◌, ◌≤◌, min};
+ghost use Rattle.metanet.specs.Flow.{jam_bound, sign_speed, alinea_rate, outflow_of, exit_part};
 ghost use Rattle.metanet.specs.Speed.{area};
 ghost use Rattle.metanet.proofs.Ready.{AreaOk, SignOk, RampOk};
 
+use crate::site::Site;
 use format::Segment;
 use metanet::{Ramp, SignSetting};
 
@@ -15,11 +16,11 @@ pub(crate) fn area_of(s: Segment) -> u64
     s.metres * s.lanes
 }
 
-// The lesser of two. The test is a number, 0 or 1, and no branch.
+// The lesser of two. The test is a number, 0 or 1, and no branch, which the library's min does not promise.
 fn lesser(a: u64, b: u64) -> u64
     ensures { result ≡ min a b }
 {
-    let less = (a < b) as u64;
+    let less = u64::from(a < b);
     less * a + (1 - less) * b
 }
 
@@ -32,20 +33,7 @@ fn portion(most: u64, room: u64, range: u64) -> u64
 {
     let scaled = most * 4194304 / range;
     let low = scaled * room / 4194304;
-    low + ((low + 1) * range <= most * room) as u64
-}
-
-// The most that a segment with n mv lets in from its origin: 0 from the jam density on, and at once where there is no origin. Nothing
-// branches on n: its room is J × G less the lesser of J × G and n.
-pub(crate) fn jam_bound(most: u64, jam: u64, critical: u64, g: u64, n: u64) -> u64
-    requires { (most ≤ 300000) × (jam ≤ 200) × (critical < jam) × (0 < g) × (g ≤ 16000) }
-    ensures { result ≡ jam_bound most jam critical g n }
-{
-    if most == 0 {
-        return 0;
-    }
-    let full = jam * g;
-    portion(most, full - lesser(full, n), (jam - critical) * g)
+    low + u64::from((low + 1) * range <= most * room)
 }
 
 // The speed that a shown sign gives, m/h.
@@ -56,67 +44,54 @@ pub(crate) fn sign_speed(r: SignSetting) -> u64
     r.limit * (500 + r.compliance)
 }
 
-// x kept in least..most.
-fn bounded(least: u64, most: u64, x: u64) -> u64
-    requires { least ≤ most }
-    ensures { result ≡ max least (min x most) }
-{
-    if x < least {
-        return least;
-    }
-    if most < x {
-        return most;
-    }
-    x
-}
-
-// ALINEA's new rate on an area g, where at least one step is summed; the quotient goes towards zero on either side of the target.
-pub(crate) fn alinea(r: Ramp, most: u64, g: u64) -> u64
-    requires ramp_ok { RampOk most r }
-    requires most_bound { (most ≤ 300000) × (0 < g) × (g ≤ 16000) × (0 < r.summed) }
-    ensures { result ≡ alinea_rate r most g }
-{
-    let wanted = r.summed * r.target * g;
-    let over = r.summed * g;
-    if r.sum <= wanted {
-        let up = r.gain * (wanted - r.sum) / over;
-        return bounded(r.least, most, r.rate + up);
-    }
-    let down = r.gain * (r.sum - wanted) / over;
-    if down < r.rate {
-        return bounded(r.least, most, r.rate - down);
-    }
-    bounded(r.least, most, 0)
-}
-
-// The least of three.
-pub(crate) fn release_of(waiting: u64, rate: u64, bound: u64) -> u64
-    ensures { result ≡ release_of waiting rate bound }
-{
-    if waiting <= rate {
-        if waiting <= bound {
-            return waiting;
-        }
-        return bound;
-    }
-    if rate <= bound {
-        return rate;
-    }
-    bound
-}
-
-// What n mv at s m/h let out of l metres in t seconds.
-pub(crate) fn outflow(n: u64, s: u64, t: u64, l: u64) -> u64
-    requires { (n ≤ 1000000000000) × (s ≤ 200000) × (t ≤ 60) × (0 < l) × (l ≤ 2000) }
-    ensures { result ≡ outflow_of n s t l }
-{
-    n * s * t / (3600 * l)
-}
-
 // What of an outflow leaves by the off-ramp.
 pub(crate) fn exit_part(outflow: u64, share: u64) -> u64
     requires { (outflow ≤ 1000000000000) × (share ≤ 1000) }
     ensures { result ≡ exit_part outflow share }
 {
     outflow * share / 1000
+}
+
+impl Site<'_> {
+    // The most that the segment with n mv lets in from its origin: 0 from the jam density on, and at once where there is no origin.
+    // Nothing branches on n: its room is J × G less the lesser of J × G and n.
+    pub(crate) fn jam_bound(&self, n: u64) -> u64
+        ensures { result ≡ jam_bound self.now.own.most self.now.own.jam self.now.own.critical self.now.lane_metres n }
+    {
+        let s = self.own;
+        if s.most == 0 {
+            return 0;
+        }
+        let full = s.jam * self.lane_metres;
+        portion(
+            s.most,
+            full - lesser(full, n),
+            (s.jam - s.critical) * self.lane_metres,
+        )
+    }
+
+    // ALINEA's new rate, where at least one step is summed; the quotient goes towards zero on either side of the target.
+    pub(crate) fn alinea(&self, r: Ramp) -> u64
+        requires ramp_ok { RampOk self.now.own.most r }
+        requires some_summed { 0 < r.summed }
+        ensures { result ≡ alinea_rate r self.now.own.most self.now.lane_metres }
+    {
+        let most = self.own.most;
+        let wanted = r.summed * r.target * self.lane_metres;
+        let over = r.summed * self.lane_metres;
+        if r.sum <= wanted {
+            let up = r.gain * (wanted - r.sum) / over;
+            return (r.rate + up).clamp(r.least, most);
+        }
+        let down = r.gain * (r.sum - wanted) / over;
+        r.rate.saturating_sub(down).clamp(r.least, most)
+    }
+
+    // What n mv at s m/h let out of the segment in a step.
+    pub(crate) fn outflow(&self, n: u64, s: u64) -> u64
+        requires { (n ≤ 1000000000000) × (s ≤ 200000) }
+        ensures { result ≡ outflow_of n s self.now.head.step self.now.own.metres }
+    {
+        n * s * self.head.step / (3600 * self.own.metres)
+    }
 }

@@ -1,12 +1,13 @@
 // The new speed of one segment: the bracketed binary64 expressions of document 01.
-ghost use Rattle.std.specs.Prelude.{◌≡◌, ◌<◌, ◌≤◌};
+ghost use Rattle.std.specs.Prelude.{◌≡◌, ◌≤◌};
 ghost use Rattle.laws.specs.Real.{real, ◌⊘◌};
 ghost use Rattle.format.specs.Words.{entry_in};
-ghost use Rattle.format.proofs.Accepted.{HeadWithin, CurveWithin};
 ghost use Rattle.metanet.specs.Speed.{relaxation, convection, anticipation, merging, keep, new_speed, curve_speed, under_sign};
+ghost use Rattle.metanet.specs.Step.{whole_speed};
+ghost use Rattle.metanet.proofs.Ready.{StateOk};
 
-use format::{Head, Segment};
-use metanet::{Old, Sign};
+use crate::site::Site;
+use metanet::{Old, SegmentState, Sign};
 
 // ρ: n mv on an area g.
 pub(crate) fn density_of(g: u64, count: u64) -> f64
@@ -16,81 +17,21 @@ pub(crate) fn density_of(g: u64, count: u64) -> f64
     case_words::whole(count) / case_words::whole(g)
 }
 
-// A: relaxation to the desired speed, m/h.
-fn relax(h: Head, want: f64, v: f64) -> f64
-    requires { HeadWithin h }
-    ensures { result ≡ relaxation h want v }
-{
-    (case_words::whole(h.step) / case_words::whole(h.tau)) * (want - v)
-}
-
-// B: convection from upstream, m/h.
-fn convect(h: Head, s: Segment, o: Old) -> f64
-    requires head_within { HeadWithin h }
-    requires metres_bound { s.metres ≤ 2000 }
-    ensures { result ≡ convection h s o }
-{
-    ((case_words::whole(h.step) / case_words::whole(3600 * s.metres)) * o.speed)
-        * (o.before - o.speed)
-}
-
-// D: anticipation of the density ahead, m/h.
-fn anticipate(h: Head, s: Segment, o: Old) -> f64
-    requires head_within { HeadWithin h }
-    requires metres_bound { s.metres ≤ 2000 }
-    ensures { result ≡ anticipation h s o }
-{
-    ((case_words::whole(h.nu * 1000000 * h.step) / case_words::whole(h.tau * s.metres))
-        * (o.after - o.density))
-        / (o.density + case_words::whole(h.kappa))
-}
-
-// E: merging of a release, m/h.
-fn merge(h: Head, s: Segment, o: Old, release: u64) -> f64
-    requires head_within { HeadWithin h }
-    requires release_bound { (release ≤ 300000) × (s.metres ≤ 2000) × (s.lanes ≤ 8) }
-    ensures { result ≡ merging h s o release }
-{
-    ((case_words::whole(h.delta * release) / case_words::whole(1000 * (s.metres * s.lanes)))
-        * o.speed)
-        / (o.density + case_words::whole(h.kappa))
-}
-
 // x where 1,000 ≤ x ≤ f, f where it is above, and 1,000 otherwise.
+#[tactic(auto, unfolding(metanet::specs::Speed::keep))]
 fn kept(f: u64, x: f64) -> f64
     requires { f ≤ 200000 }
     ensures { result ≡ keep f x }
 {
     let low = case_words::whole(1000);
     let high = case_words::whole(f);
-    if low <= x {
-        if x <= high {
-            return x;
-        }
-        if high < x {
-            return high;
-        }
-        return low;
+    if (low <= x) & (x <= high) {
+        return x;
     }
     if high < x {
         return high;
     }
     low
-}
-
-// The speed that curve k gives at n mv on an area g.
-pub(crate) fn curve_speed(net: &[u64], k: u64, n: u64, g: u64) -> f64
-    requires k_bound { (k < 8) × (0 < g) × (g ≤ 16000) }
-    requires curve_within { CurveWithin (entry_in net.now k) }
-    ensures { result ≡ curve_speed (entry_in net.now k) n g }
-{
-    let j = n / g;
-    if 200 <= j {
-        return case_words::whole(network_words::kept_entry(net, k as u32, 200));
-    }
-    let high = network_words::kept_entry(net, k as u32, j as u32);
-    let low = network_words::kept_entry(net, k as u32, (j + 1) as u32);
-    case_words::whole(high) - case_words::whole((high - low) * (n % g)) / case_words::whole(g)
 }
 
 // The desired speed under a sign.
@@ -108,26 +49,81 @@ pub(crate) fn desired(v: f64, sign: Sign) -> f64
     }
 }
 
-// The new speed on a curve that starts at free.
-pub(crate) fn new_speed(
-    h: Head,
-    s: Segment,
-    free: u64,
-    o: Old,
-    want: f64,
-    ramp: bool,
-    release: u64,
-) -> f64
-    requires head_within { HeadWithin h }
-    requires metres_bound { (s.metres ≤ 2000) × (s.lanes ≤ 8) × (free ≤ 200000) × (release ≤ 300000) }
-    ensures { result ≡ new_speed h s free o want ramp release }
-{
-    let a = relax(h, want, o.speed);
-    let b = convect(h, s, o);
-    let d = anticipate(h, s, o);
-    let x = ((o.speed + a) + b) - d;
-    if ramp {
-        return kept(free, x - merge(h, s, o, release));
+impl Site<'_> {
+    // A: relaxation to the desired speed, m/h.
+    fn relax(&self, want: f64, v: f64) -> f64
+        ensures { result ≡ relaxation self.now.head want v }
+    {
+        let h = self.head;
+        (case_words::whole(h.step) / case_words::whole(h.tau)) * (want - v)
     }
-    kept(free, x)
+
+    // B: convection from upstream, m/h.
+    fn convect(&self, o: Old) -> f64
+        ensures { result ≡ convection self.now.head self.now.own o }
+    {
+        let metres = self.own.metres;
+        ((case_words::whole(self.head.step) / case_words::whole(3600 * metres)) * o.speed)
+            * (o.before - o.speed)
+    }
+
+    // D: anticipation of the density ahead, m/h.
+    fn anticipate(&self, o: Old) -> f64
+        ensures { result ≡ anticipation self.now.head self.now.own o }
+    {
+        let h = self.head;
+        ((case_words::whole(h.nu * 1000000 * h.step) / case_words::whole(h.tau * self.own.metres))
+            * (o.after - o.density))
+            / (o.density + case_words::whole(h.kappa))
+    }
+
+    // E: merging of a release, m/h.
+    fn merge(&self, o: Old, release: u64) -> f64
+        requires { release ≤ 300000 }
+        ensures { result ≡ merging self.now.head self.now.own o release }
+    {
+        let h = self.head;
+        ((case_words::whole(h.delta * release) / case_words::whole(1000 * self.lane_metres))
+            * o.speed)
+            / (o.density + case_words::whole(h.kappa))
+    }
+
+    // s: the whole part of v.
+    pub(crate) fn whole_speed(&self, r: SegmentState) -> u64
+        requires { StateOk self.now.own (entry_in self.now.net.now self.now.own.curve 0) r }
+        ensures { (result ≡ whole_speed r) × (result ≤ 200000) }
+    {
+        std::num::truncating_f64_to_u64(r.speed)
+    }
+
+    // The speed that its curve gives at n mv.
+    pub(crate) fn curve_speed(&self, n: u64) -> f64
+        ensures { result ≡ curve_speed (entry_in self.now.net.now self.now.own.curve) n self.now.lane_metres }
+    {
+        let g = self.lane_metres;
+        let j = n / g;
+        if 200 <= j {
+            return case_words::whole(self.entry(200));
+        }
+        let high = self.entry(j as u32);
+        let low = self.entry((j + 1) as u32);
+        case_words::whole(high) - case_words::whole((high - low) * (n % g)) / case_words::whole(g)
+    }
+
+    // The new speed; on_ramp says whether the release merges.
+    #[tactic(auto, unfolding(metanet::specs::Speed::new_speed))]
+    pub(crate) fn new_speed(&self, o: Old, want: f64, on_ramp: bool, release: u64) -> f64
+        requires { release ≤ 300000 }
+        ensures { result ≡ new_speed self.now.head self.now.own (entry_in self.now.net.now self.now.own.curve 0) o want on_ramp release }
+    {
+        let a = self.relax(want, o.speed);
+        let b = self.convect(o);
+        let d = self.anticipate(o);
+        let x = ((o.speed + a) + b) - d;
+        let free = self.entry(0);
+        if on_ramp {
+            return kept(free, x - self.merge(o, release));
+        }
+        kept(free, x)
+    }
 }

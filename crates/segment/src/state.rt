@@ -1,19 +1,19 @@
 // One segment of a step.
 ghost use Rattle.std.specs.Prelude.{◌≡◌, ◌+◌, ◌-◌, ◌<◌, ◌≤◌, length, drop, if◌then◌else◌, nat_eq};
-ghost use Rattle.format.proofs.Accepted.{HeadWithin};
-ghost use Rattle.format.specs.Words.{head_in, segment_in};
+ghost use Rattle.format.specs.Words.{head_in, entry_in, segment_in};
 ghost use Rattle.metanet.specs.Case.{alinea_kind};
 ghost use Rattle.metanet.specs.Flow.{exit_part};
-ghost use Rattle.metanet.specs.Speed.{area};
 ghost use Rattle.metanet.specs.Step.{moves, rate_now, ramp_now, outflow_now, new_state};
 ghost use Rattle.metanet.specs.Words.{net_of, ramp_in};
-ghost use Rattle.metanet.proofs.Ready.{SegmentOk, RampOk, StateOk, NewStateOk, new_state_in};
+ghost use Rattle.metanet.proofs.Ready.{RampOk, StateOk, NewStateOk, new_state_in};
 
-use crate::{around, flow, speed};
-use format::{Following, Head, Segment};
+use crate::site::Site;
+use crate::{flow, speed};
+use format::{Following, Head};
 use metanet::{Entry, Flows, Neighbours, Old, Ramp, SegmentState};
 
 // Whether a ramp moves its rate; t is the number of steps so far.
+#[tactic(auto, unfolding(metanet::specs::Step::moves))]
 fn is_moved(r: Ramp, t: u64) -> bool
     requires { r.kind ≡ alinea_kind → 0 < r.interval }
     ensures { result ≡ moves r t }
@@ -22,25 +22,6 @@ fn is_moved(r: Ramp, t: u64) -> bool
         return (t % r.interval == 0) & (r.summed != 0);
     }
     false
-}
-
-// The rate that a step makes on an area g, of the ramp in the words w of a state. What only ALINEA has is read only there.
-fn rate_of(w: &[u64], s: Segment, g: u64, t: u64) -> u64
-    requires g_value { (g ≡ area s) × (0 < g) × (g ≤ 16000) × (s.most ≤ 300000) × (16 ≤ length w.now) }
-    requires ramp_ok { RampOk s.most (ramp_in w.now) }
-    ensures { result ≡ rate_now s (ramp_in w.now) t }
-{
-    if w[4] == 2 {
-        let r = case_words::ramp_in(w);
-        if is_moved(r, t) {
-            return flow::alinea(r, s.most, g);
-        }
-        return r.rate;
-    }
-    if w[4] == 0 {
-        return s.most;
-    }
-    w[5]
 }
 
 // S or m, as x, which an ALINEA ramp adds k to.
@@ -57,81 +38,87 @@ fn added_up(r: Ramp, moved: bool, x: u64, k: u64) -> u64
     x + k
 }
 
-// The ramp after a step on an area g with n mv, from the words w of a state; t is the number of steps so far.
-fn new_ramp(w: &[u64], s: Segment, n: u64, g: u64, t: u64) -> Ramp
-    requires g_value { (g ≡ area s) × (0 < g) × (g ≤ 16000) × (s.most ≤ 300000) × (16 ≤ length w.now) × (n ≤ 1000000000000) }
-    requires ramp_ok { RampOk s.most (ramp_in w.now) }
-    ensures { result ≡ ramp_now s n (ramp_in w.now) t }
-{
-    let rate = rate_of(w, s, g, t);
-    let r = case_words::ramp_in(w);
-    let moved = is_moved(r, t);
-    Ramp {
-        kind: r.kind,
-        rate,
-        target: r.target,
-        gain: r.gain,
-        least: r.least,
-        interval: r.interval,
-        sum: added_up(r, moved, r.sum, n),
-        summed: added_up(r, moved, r.summed, 1),
+impl Site<'_> {
+    // The rate that a step makes, of the ramp in the words w of a state. What only ALINEA has is read only there.
+    fn rate_of(&self, w: &[u64], t: u64) -> u64
+        requires w_long { 16 ≤ length w.now }
+        requires ramp_ok { RampOk self.now.own.most (ramp_in w.now) }
+        ensures { result ≡ rate_now self.now.own (ramp_in w.now) t }
+    {
+        if w[4] == 2 {
+            let r = case_words::ramp_in(w);
+            if is_moved(r, t) {
+                return self.alinea(r);
+            }
+            return r.rate;
+        }
+        if w[4] == 0 {
+            return self.own.most;
+        }
+        w[5]
     }
-}
 
-fn outflow_of(h: Head, s: Segment, f: u64, r: SegmentState) -> u64
-    requires head_within { HeadWithin h }
-    requires segment_ok { SegmentOk h s f }
-    requires state_ok { StateOk s f r }
-    ensures { (result ≡ outflow_now h s r) × (result ≤ r.count) }
-{
-    flow::outflow(
-        r.count,
-        std::num::truncating_f64_to_u64(r.speed),
-        h.step,
-        s.metres,
-    )
-}
+    // The ramp after a step with n mv, from the words w of a state; t is the number of steps so far.
+    #[tactic(auto, unfolding(metanet::specs::Step::ramp_now, metanet::specs::Step::added_up))]
+    fn new_ramp(&self, w: &[u64], n: u64, t: u64) -> Ramp
+        requires w_long { (16 ≤ length w.now) × (n ≤ 1000000000000) }
+        requires ramp_ok { RampOk self.now.own.most (ramp_in w.now) }
+        ensures { result ≡ ramp_now self.now.own n (ramp_in w.now) t }
+    {
+        let rate = self.rate_of(w, t);
+        let r = case_words::ramp_in(w);
+        let moved = is_moved(r, t);
+        Ramp {
+            rate,
+            sum: added_up(r, moved, r.sum, n),
+            summed: added_up(r, moved, r.summed, 1),
+            ..r
+        }
+    }
 
-// The new state of a segment, from its old one, whose ramp is read in the words w, and what is around it.
-fn new_state(
-    h: Head,
-    s: Segment,
-    f: u64,
-    w: &[u64],
-    r: SegmentState,
-    t: u64,
-    d: u64,
-    onramp: bool,
-    o: Neighbours,
-) -> SegmentState
-    requires head_within { HeadWithin h }
-    requires segment_ok { SegmentOk h s f }
-    requires state_ok { StateOk s f r }
-    requires d_bound { (d ≤ 1000000) × (o.passed ≤ 100000000000000) × (16 ≤ length w.now) × (r.ramp ≡ ramp_in w.now) }
-    ensures { result ≡ new_state h s f r t d onramp o }
-{
-    let g = flow::area_of(s);
-    let sign = r.sign;
-    let ramp = new_ramp(w, s, r.count, g, t);
-    let waiting = r.queue + d;
-    let release = flow::release_of(waiting, ramp.rate, o.bound);
-    let outflow = outflow_of(h, s, f, r);
-    let old = Old {
-        count: r.count,
-        queue: r.queue,
-        speed: r.speed,
-        density: speed::density_of(g, r.count),
-        before: o.before,
-        after: o.after,
-    };
-    let v = speed::new_speed(h, s, f, old, o.want, onramp, release);
-    SegmentState {
-        count: r.count + release + o.passed - outflow,
-        queue: waiting - release,
-        sign,
-        ramp,
-        flows: Flows { outflow, release },
-        speed: v,
+    fn outflow_of(&self, r: SegmentState) -> u64
+        requires { StateOk self.now.own (entry_in self.now.net.now self.now.own.curve 0) r }
+        ensures { (result ≡ outflow_now self.now.head self.now.own r) × (result ≤ r.count) }
+    {
+        self.outflow(r.count, self.whole_speed(r))
+    }
+
+    // The new state, from the old one, whose ramp is read in the words w, and what is around it: d is its arrivals.
+    fn new_state(
+        &self,
+        w: &[u64],
+        r: SegmentState,
+        t: u64,
+        d: u64,
+        on_ramp: bool,
+        o: Neighbours,
+    ) -> SegmentState
+        requires state_ok { StateOk self.now.own (entry_in self.now.net.now self.now.own.curve 0) r }
+        requires d_bound { (d ≤ 1000000) × (o.passed ≤ 100000000000000) × (16 ≤ length w.now) × (r.ramp ≡ ramp_in w.now) }
+        ensures { result ≡ new_state self.now.head self.now.own (entry_in self.now.net.now self.now.own.curve 0) r t d on_ramp o }
+    {
+        let sign = r.sign;
+        let ramp = self.new_ramp(w, r.count, t);
+        let waiting = r.queue + d;
+        let release = waiting.min(ramp.rate).min(o.bound);
+        let outflow = self.outflow_of(r);
+        let old = Old {
+            count: r.count,
+            queue: r.queue,
+            speed: r.speed,
+            density: speed::density_of(self.lane_metres, r.count),
+            before: o.before,
+            after: o.after,
+        };
+        let v = self.new_speed(old, o.want, on_ramp, release);
+        SegmentState {
+            count: r.count + release + o.passed - outflow,
+            queue: waiting - release,
+            sign,
+            ramp,
+            flows: Flows { outflow, release },
+            speed: v,
+        }
     }
 }
 
@@ -151,12 +138,17 @@ pub fn new_state_in(
 {
     let net = &words[..network_words::NETWORK_WORDS];
     let rest = &words[a..];
-    let s = network_words::segment_in(net, i);
-    let f = network_words::kept_entry(net, s.curve as u32, 0);
+    let own = network_words::segment_in(net, i);
+    let site = Site {
+        net,
+        head: h,
+        own,
+        lane_metres: flow::area_of(own),
+    };
     let r = case_words::state_of(rest, v);
-    let o = around::neighbours(net, rest, h, i, s, r, e);
-    let onramp = (s.origin == 1) & (e.segments != 0);
-    new_state(h, s, f, rest, r, t, d, onramp, o)
+    let o = site.neighbours(rest, i, r, e);
+    let on_ramp = (own.origin == 1) & (e.segments != 0);
+    site.new_state(rest, r, t, d, on_ramp, o)
 }
 
 // What follows segment i.

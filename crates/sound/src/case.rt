@@ -1,6 +1,9 @@
 // Whether a case is sound.
-ghost use Rattle.std.specs.Prelude.{◌≡◌, ◌||◌, ◌+◌, ◌*◌, ◌<◌, ◌≤◌, length};
-ghost use Rattle.laws.specs.First.{first_of};
+#![tactic(auto, unfolding(laws::specs::First::row, laws::specs::First::any_of, metanet::specs::Sound::sign_bad, metanet::specs::Sound::has_alinea, metanet::specs::Sound::open_bad, metanet::specs::Sound::fixed_bad, metanet::specs::Sound::alinea_bad, metanet::specs::Sound::average_bad, metanet::specs::Sound::flows_bad, metanet::specs::Sound::speed_bad, metanet::specs::Sound::state_bad, metanet::specs::Sound::totals_bad))]
+
+ghost use Rattle.std.specs.Prelude.{◌≡◌, ◌||◌, ◌+◌, ◌*◌, ◌<◌, ◌≤◌, length, get_or};
+ghost use Rattle.laws.specs.First.{first_of, row};
+ghost use Rattle.laws.specs.Refusal.{refused};
 ghost use Rattle.format.specs.Words.{head_in, entry_in, segment_in};
 ghost use Rattle.format.proofs.Accepted.{SegmentsKept};
 ghost use Rattle.metanet.specs.Step.{on_ramp};
@@ -9,7 +12,11 @@ ghost use Rattle.metanet.specs.Sound.{sign_bad, has_alinea, open_bad, fixed_bad,
 ghost use Rattle.metanet.proofs.InWords.{state_number_in, case_number_in, mean_number_in};
 
 use format::Segment;
+use laws::Refusal;
 use metanet::{Flows, Ramp, SegmentState, SignSetting};
+
+// The most mv of any figure: 10^12.
+const MV_MOST: u64 = 1000000000000;
 
 fn sign_bad(r: SignSetting) -> bool
     ensures { result ≡ sign_bad r }
@@ -53,35 +60,30 @@ fn alinea_bad(most: u64, r: Ramp) -> bool
 fn average_bad(sum: u64, summed: u64) -> bool
     ensures { result ≡ average_bad sum summed }
 {
-    (60000000000000 < sum) | (60 < summed)
+    (60 * MV_MOST < sum) | (60 < summed)
 }
 
 // The ramp of segment i: its setting, or S or m; most is the segment's Q. Whether it may be metered is looked for only where it is, since
 // every call judges all. An open or fixed ramp has none of S and m, so that only those of ALINEA can pass their bounds.
+#[tactic(auto, using(metanet::proofs::Settings::none_averaged), unfolding(metanet::specs::Sound::setting_bad, metanet::specs::Sound::open_bad, metanet::specs::Sound::fixed_bad))]
 fn ramp_bad(net: &[u64], i: usize, most: u64, r: Ramp) -> bool
     requires segments_kept { SegmentsKept net.now (head_in net.now) }
     requires i_bound { i < (head_in net.now).size }
     ensures { result ≡ (setting_bad (on_ramp (head_in net.now) (entry_in net.now) (segment_in net.now) i) most r || average_bad r.sum r.summed) }
 {
-    if r.kind == 0 {
-        return open_bad(most, r);
+    match r.kind {
+        0 => open_bad(most, r),
+        1 => !case_words::is_on_ramp(net, i) || fixed_bad(most, r),
+        2 => !case_words::is_on_ramp(net, i)
+            || (alinea_bad(most, r) | average_bad(r.sum, r.summed)),
+        _ => true,
     }
-    if !case_words::is_on_ramp(net, i) {
-        return true;
-    }
-    if r.kind == 1 {
-        return fixed_bad(most, r);
-    }
-    if r.kind == 2 {
-        return alinea_bad(most, r) | average_bad(r.sum, r.summed);
-    }
-    true
 }
 
 fn flows_bad(r: Flows) -> bool
     ensures { result ≡ flows_bad r }
 {
-    (1000000000000 < r.outflow) | (1000000000000 < r.release)
+    (MV_MOST < r.outflow) | (MV_MOST < r.release)
 }
 
 // NaN is in no range.
@@ -98,91 +100,94 @@ fn state_bad(net: &[u64], i: usize, s: Segment, f: u64, r: SegmentState) -> bool
     requires i_bound { (i < (head_in net.now).size) × (f ≤ 200000) }
     ensures { result ≡ state_bad (on_ramp (head_in net.now) (entry_in net.now) (segment_in net.now) i) s f r }
 {
-    let sign = r.sign;
-    let ramp = r.ramp;
-    let flows = r.flows;
-    (1000000000000 < r.count)
-        | (1000000000000 < r.queue)
-        | flows_bad(flows)
-        | sign_bad(sign)
+    (MV_MOST < r.count)
+        | (MV_MOST < r.queue)
+        | flows_bad(r.flows)
+        | sign_bad(r.sign)
         | speed_bad(f, r.speed)
-        | ramp_bad(net, i, s.most, ramp)
+        | ramp_bad(net, i, s.most, r.ramp)
 }
 
-// 12, of state i of the case.
-fn state_number(words: &[u64], speeds: &[f64], at: usize, from: usize, n: usize, i: usize) -> u64
-    requires case_at { CaseAt words.now speeds.now at from n }
-    requires i_lt_n { i < n }
-    ensures { result ≡ state_number_in words.now speeds.now at from n i }
-{
-    let net = &words[..network_words::NETWORK_WORDS];
-    let s = network_words::segment_in(net, i);
-    let f = network_words::kept_entry(net, s.curve as u32, 0);
-    let a = at + 16 * i;
-    let b = from + i;
-    let r = case_words::state_of(&words[a..], speeds[b]);
-    if state_bad(net, i, s, f, r) {
-        return 12;
-    }
-    0
-}
-
-// 12, of the first state that is not sound.
-fn states_number(words: &[u64], speeds: &[f64], at: usize, from: usize, n: usize) -> u64
-    requires { CaseAt words.now speeds.now at from n }
-    ensures { result ≡ first_of (state_number_in words.now speeds.now at from n) n }
-{
-    let mut i = 0;
-    while i < n {
-        let r = state_number(words, speeds, at, from, n, i);
-        if r != 0 {
-            return r;
-        }
-        i += 1;
-    }
-    0
-}
-
-// 12, of the first of n states from word at on whose S or m passes its bound.
-pub(crate) fn means_number(words: &[u64], at: usize, n: usize) -> u64
+// 12 where S or m passes its bound in one of the n states from word at on.
+#[tactic(auto, using(laws::proofs::Refused::row_loop, laws::proofs::First::first_of_found), unfolding(laws::specs::First::row))]
+pub(crate) fn check_means(words: &[u64], at: usize, n: usize) -> Result<(), Refusal>
     requires { (n ≤ 40) × (at + 16 * n ≤ length words.now) }
-    ensures { result ≡ first_of (mean_number_in words.now at) n }
+    ensures { refused result ≡ first_of (mean_number_in words.now at) n }
 {
-    let mut i = 0;
-    while i < n {
+    for i in 0..n {
         let a = at + 16 * i;
         if average_bad(words[a + 12], words[a + 13]) {
-            return 12;
+            return Err(Refusal::NotSound);
         }
-        i += 1;
     }
-    0
+    Ok(())
 }
 
-// vehicles is the mv in segments and queues.
-pub(crate) fn totals_bad(vehicles: u64, steps: u64, arrivals: u64, exits: u64, time: u64) -> bool
-    ensures { result ≡ totals_bad vehicles steps arrivals exits time }
+// 12 where a total passes its bound: vehicles, the mv in segments and queues, or one that is kept from word e on.
+pub(crate) fn check_totals(words: &[u64], e: usize, vehicles: u64) -> Result<(), Refusal>
+    requires { e + 4 ≤ length words.now }
+    ensures { let w = words.now in refused result ≡ row (totals_bad vehicles (get_or w e 0) (get_or w (e + 1) 0) (get_or w (e + 2) 0) (get_or w (e + 3) 0)) 12 0 }
 {
-    (1000000000000 < vehicles)
-        | (1000000000000 < arrivals)
-        | (1000000000000 < exits)
+    let steps = words[e];
+    let arrivals = words[e + 1];
+    let exits = words[e + 2];
+    let time = words[e + 3];
+    let bad = (MV_MOST < vehicles)
+        | (MV_MOST < arrivals)
+        | (MV_MOST < exits)
         | (1000000000000000000 < time)
-        | (20000 < steps)
+        | (20000 < steps);
+    if bad {
+        return Err(Refusal::NotSound);
+    }
+    Ok(())
 }
 
-// 12 where the case whose states start at word at and whose speeds start at from is not sound.
-pub(crate) fn case_number(words: &[u64], speeds: &[f64], at: usize, from: usize, n: usize) -> u64
-    requires { CaseAt words.now speeds.now at from n }
-    ensures { result ≡ case_number_in words.now speeds.now at from n }
-{
-    let in_states = states_number(words, speeds, at, from, n);
-    if in_states != 0 {
-        return in_states;
+// A case of n segments in the lent arrays, on the network in the first words: its states start at word at, its speeds at speed from.
+#[derive(Clone, Copy)]
+pub(crate) struct Case<'a> {
+    pub(crate) words: &'a [u64],
+    pub(crate) speeds: &'a [f64],
+    pub(crate) at: usize,
+    pub(crate) from: usize,
+    pub(crate) n: usize,
+    ghost placed: { CaseAt words.now speeds.now at from n },
+}
+
+impl Case<'_> {
+    // 12 where state i is not sound.
+    #[tactic(auto, using(laws::proofs::Lists::rest_is, metanet::proofs::SoundLaws::state_read), unfolding(laws::specs::First::row, metanet::specs::Sound::state_number))]
+    fn check_state(&self, i: usize) -> Result<(), Refusal>
+        requires { i < self.now.n }
+        ensures { let c = self.now in refused result ≡ state_number_in c.words.now c.speeds.now c.at c.from c.n i }
+    {
+        let net = &self.words[..network_words::NETWORK_WORDS];
+        let s = network_words::segment_in(net, i);
+        let f = network_words::kept_entry(net, s.curve as u32, 0);
+        let r = case_words::state_of(&self.words[self.at + 16 * i..], self.speeds[self.from + i]);
+        if state_bad(net, i, s, f, r) {
+            return Err(Refusal::NotSound);
+        }
+        Ok(())
     }
-    let vehicles = case_words::vehicles_in(words, at, n);
-    let e = at + 16 * n;
-    if totals_bad(vehicles, words[e], words[e + 1], words[e + 2], words[e + 3]) {
-        return 12;
+
+    // 12 where some state is not.
+    #[tactic(auto, using(laws::proofs::Refused::row_loop))]
+    fn check_states(&self) -> Result<(), Refusal>
+        ensures { let c = self.now in refused result ≡ first_of (state_number_in c.words.now c.speeds.now c.at c.from c.n) c.n }
+    {
+        for i in 0..self.n {
+            self.check_state(i)?;
+        }
+        Ok(())
     }
-    0
+
+    // 12 where the case is not sound.
+    pub(crate) fn check(&self) -> Result<(), Refusal>
+        ensures { let c = self.now in refused result ≡ case_number_in c.words.now c.speeds.now c.at c.from c.n }
+    {
+        self.check_states()?;
+        let vehicles = case_words::vehicles_in(self.words, self.at, self.n);
+        check_totals(self.words, self.at + 16 * self.n, vehicles)
+    }
 }

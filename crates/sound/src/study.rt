@@ -1,88 +1,107 @@
-// Whether a study is sound: 12, or 0.
+// Whether a study is sound.
 ghost use Rattle.std.specs.Prelude.{◌≡◌, ◌+◌, ◌<◌, ◌≤◌};
 ghost use Rattle.laws.specs.First.{first_of};
+ghost use Rattle.laws.specs.Refusal.{refused};
+ghost use Rattle.book.specs.Arrangement.{case_length};
 ghost use Rattle.book.specs.Sound.{case_number_at, slot_number, cases_number, sound_number};
 ghost use Rattle.book.proofs.Laid.{Laid};
 
-use crate::case;
+use crate::case::Case;
+use laws::Refusal;
 
-// Case k.
-fn case_number_at(words: &[u64], speeds: &[f64], n: usize, k: usize) -> u64
-    requires laid { Laid words.now speeds.now n }
-    requires k_bound { k ≤ 6 }
-    ensures { result ≡ case_number_at words.now speeds.now k }
+// Cases 1 to 6. Case 0 is the live one.
+const SLOTS: usize = 6;
+
+// How many words a case of n segments has: 16 a state, and 8 for the totals.
+fn case_length(n: usize) -> usize
+    requires { n ≤ 40 }
+    ensures { result ≡ case_length n }
 {
-    case::case_number(
-        words,
-        speeds,
-        case_words::FIRST_CASE + k * (16 * n + 8),
-        k * n,
-        n,
-    )
+    16 * n + 8
 }
 
-// Slot k: its mark is 0, or 1 with a sound case.
-fn slot_number(words: &[u64], speeds: &[f64], n: usize, k: usize) -> u64
-    requires laid { Laid words.now speeds.now n }
-    requires k_bound { k ≤ 6 }
-    ensures { result ≡ slot_number words.now speeds.now k }
-{
-    let mark = words[case_words::RUN_WORD + k];
-    if 1 < mark {
-        return 12;
-    }
-    if mark == 0 {
-        return 0;
-    }
-    case_number_at(words, speeds, n, k)
+// A study of n segments in the lent arrays, whose network and lengths are judged.
+#[derive(Clone, Copy)]
+struct Study<'a> {
+    words: &'a [u64],
+    speeds: &'a [f64],
+    n: usize,
+    ghost laid: { Laid words.now speeds.now n },
 }
 
-fn slots_number(words: &[u64], speeds: &[f64], n: usize) -> u64
-    requires { Laid words.now speeds.now n }
-    ensures { result ≡ first_of (λ k. slot_number words.now speeds.now (k + 1)) 6 }
-{
-    let mut k = 0;
-    while k < 6 {
-        let r = slot_number(words, speeds, n, k + 1);
-        if r != 0 {
-            return r;
-        }
-        k += 1;
-    }
-    0
-}
-
-// The run count, the arrangement number and the cases of a study whose network and lengths are judged.
-fn cases_number(words: &[u64], speeds: &[f64], n: usize) -> u64
-    requires { Laid words.now speeds.now n }
-    ensures { result ≡ cases_number words.now speeds.now }
-{
-    if (1000000 < words[case_words::RUN_WORD])
-        | (words[case_words::ARRANGEMENT_WORD] != case_words::ARRANGEMENT)
+impl Study<'_> {
+    // 12 where case k is not sound.
+    #[tactic(auto, using(crate::proofs::Steps::case_steps))]
+    fn check_case(&self, k: usize) -> Result<(), Refusal>
+        requires { k ≤ SLOTS }
+        ensures { refused result ≡ case_number_at self.now.words.now self.now.speeds.now k }
     {
-        return 12;
+        let case = Case {
+            words: self.words,
+            speeds: self.speeds,
+            at: case_words::FIRST_CASE + k * case_length(self.n),
+            from: k * self.n,
+            n: self.n,
+        };
+        case.check()
     }
-    let live = case_number_at(words, speeds, n, 0);
-    if live != 0 {
-        return live;
+
+    // 12 where slot k is not: its mark is 0, or 1 with a sound case.
+    #[tactic(auto, unfolding(laws::specs::First::row, book::specs::Sound::slot_number))]
+    fn check_slot(&self, k: usize) -> Result<(), Refusal>
+        requires { k ≤ SLOTS }
+        ensures { refused result ≡ slot_number self.now.words.now self.now.speeds.now k }
+    {
+        match self.words[case_words::RUN_WORD + k] {
+            0 => Ok(()),
+            1 => self.check_case(k),
+            _ => Err(Refusal::NotSound),
+        }
     }
-    slots_number(words, speeds, n)
+
+    #[tactic(auto, using(laws::proofs::Refused::row_loop))]
+    fn check_slots(&self) -> Result<(), Refusal>
+        ensures { refused result ≡ first_of (λ k. slot_number self.now.words.now self.now.speeds.now (k + 1)) SLOTS }
+    {
+        for k in 0..SLOTS {
+            self.check_slot(k + 1)?;
+        }
+        Ok(())
+    }
+
+    // 12 of the run count, the arrangement number, the live case or a slot.
+    #[tactic(auto, using(crate::proofs::Steps::then_next), unfolding(laws::specs::First::row, book::specs::Sound::cases_number))]
+    fn check_cases(&self) -> Result<(), Refusal>
+        ensures { refused result ≡ cases_number self.now.words.now self.now.speeds.now }
+    {
+        if (1000000 < self.words[case_words::RUN_WORD])
+            | (self.words[case_words::ARRANGEMENT_WORD] != case_words::ARRANGEMENT)
+        {
+            return Err(Refusal::NotSound);
+        }
+        self.check_case(0)?;
+        self.check_slots()
+    }
 }
 
-pub(crate) fn sound_number(words: &[u64], speeds: &[f64]) -> u64
-    ensures { result ≡ sound_number words.now speeds.now }
+// 12 where the arrays do not hold a sound study. Nothing is presumed of them. Whatever refuses the network, here it is 12.
+#[tactic(auto, using(crate::proofs::Steps::study_steps))]
+pub(crate) fn check(words: &[u64], speeds: &[f64]) -> Result<(), Refusal>
+    ensures { refused result ≡ sound_number words.now speeds.now }
 {
     if words.len() < network_words::NETWORK_WORDS {
-        return 12;
+        return Err(Refusal::NotSound);
     }
     let net = &words[..network_words::NETWORK_WORDS];
-    if 0 < network_words::kept_number(net) {
-        return 12;
+    if network_words::check(net).is_err() {
+        return Err(Refusal::NotSound);
     }
-    let h = network_words::kept_head(net);
-    let n = h.size as usize;
-    if (words.len() < case_words::FIRST_CASE + 7 * (16 * n + 8)) | (speeds.len() < 7 * n) {
-        return 12;
+    let n = network_words::kept_head(net).size as usize;
+    if (words.len() < case_words::FIRST_CASE + (1 + SLOTS) * case_length(n))
+        | (speeds.len() < (1 + SLOTS) * n)
+    {
+        return Err(Refusal::NotSound);
     }
-    cases_number(words, speeds, n)
+    let study = Study { words, speeds, n };
+    study.check_cases()
 }

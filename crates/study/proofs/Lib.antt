@@ -1,2 +1,4 @@
+pub mod Answered
 pub mod Changing
 pub mod Running
+pub mod Stepping

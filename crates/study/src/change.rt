@@ -1,36 +1,26 @@
 // What a sign and a setting put into a segment's state of 16 words.
 ghost use Rattle.std.specs.Prelude.{◌≡◌, false, length};
-ghost use Rattle.metanet.specs.Change.{compliance_bad, compliance_word, sign_for, ramp_for};
+ghost use Rattle.metanet.specs.Change.{compliance_bad, sign_for, ramp_for};
 ghost use Rattle.metanet.specs.Case.{plain_ramp};
 ghost use Rattle.metanet.proofs.InWords.{signed_words, metered_words};
 
 use metanet::{Ramp, Setting, SignSetting};
 
-// A compliance of −500..500 with 500 added.
-fn compliance_word(compliance: i64) -> u64
-    requires { compliance_bad compliance ≡ false }
-    ensures { result ≡ compliance_word compliance }
-{
-    (compliance + 500) as u64
-}
-
-// The sign with a limit and a compliance; a dark one keeps no compliance.
+// The sign with a limit and a compliance of −500..500, to which 500 is added; a dark one keeps no compliance.
 fn sign_for(limit: u64, compliance: i64) -> SignSetting
     requires { compliance_bad compliance ≡ false }
     ensures { result ≡ sign_for limit compliance }
 {
-    if limit == 0 {
-        return SignSetting {
-            limit: 0,
-            compliance: 0,
-        };
-    }
-    SignSetting {
-        limit,
-        compliance: compliance_word(compliance),
-    }
+    let compliance = if limit == 0 {
+        0
+    } else {
+        (compliance + 500) as u64
+    };
+    SignSetting { limit, compliance }
 }
 
+// Writes the sign over the state that it is lent.
+#[tactic(auto, unfolding(metanet::proofs::InWords::signed_words))]
 pub(crate) fn put_sign(state: &mut [u64], limit: u64, compliance: i64)
     requires { (length state.old ≡ 16) × (compliance_bad compliance ≡ false) }
     ensures { state.new ≡ signed_words limit compliance state.old }
@@ -69,18 +59,17 @@ fn ramp_for(most: u64, setting: Setting) -> Ramp
             least,
             interval,
         } => Ramp {
-            kind: 2,
-            rate: most,
             target,
             gain,
             least,
             interval,
-            sum: 0,
-            summed: 0,
+            ..plain_ramp(2, most)
         },
     }
 }
 
+// Writes the ramp over it; most is the segment's Q.
+#[tactic(auto, unfolding(metanet::proofs::InWords::metered_words))]
 pub(crate) fn put_setting(state: &mut [u64], most: u64, setting: Setting)
     requires { length state.old ≡ 16 }
     ensures { state.new ≡ metered_words most setting state.old }

@@ -1,6 +1,8 @@
-// Rows of arrivals taken as steps of the live case.
-ghost use Rattle.std.specs.Prelude.{◌≡◌, ◌<◌, length, replicate};
+// Rows of arrivals taken as steps of the live case. Both arrays and n stay parameters: each contract says what the arrays were and what
+// they are, and a struct that lends them would say the same with longer names.
+ghost use Rattle.std.specs.Prelude.{◌≡◌, ◌<◌, length, Ok};
 ghost use Rattle.laws.specs.Sums.{sum_of};
+ghost use Rattle.laws.specs.Refusal.{refused};
 ghost use Rattle.survey_file.specs.File.{rows_on, row_on, rows_in};
 ghost use Rattle.survey_file.proofs.Accepted.{AcceptedSurvey};
 ghost use Rattle.metanet.specs.Line.{stepped};
@@ -14,9 +16,11 @@ ghost use Rattle.study.specs.Rows.{RowTaken};
 
 use book::Ran;
 use case_words::{FIRST_CASE, RUN_WORD};
+use laws::Refusal;
 use refusal::calls;
 
 // The step of the live case of n segments, which nothing refuses; vehicles is its mv.
+#[tactic(auto, using(crate::proofs::Stepping::accepted_step))]
 pub(crate) fn accepted_step(
     words: &mut [u64],
     speeds: &mut [f64],
@@ -34,58 +38,63 @@ pub(crate) fn accepted_step(
     words[RUN_WORD] = runs + 1;
 }
 
-// A row as a step, on a study that is sound but perhaps for S, m and the totals of its live case: the number that refuses it, or 0.
-fn step_row(words: &mut [u64], speeds: &mut [f64], arrivals: &[u32], n: usize) -> u64
+// A row as a step, on a study that is sound but perhaps for S, m and the totals of its live case.
+#[tactic(auto, using(crate::proofs::Stepping::row_step))]
+fn step_row(
+    words: &mut [u64],
+    speeds: &mut [f64],
+    arrivals: &[u32],
+    n: usize,
+) -> Result<(), Refusal>
     requires row_ready { RowReady words.old speeds.old n }
     requires arrivals_len { length arrivals.now ≡ n }
-    ensures { RowTaken words.old speeds.old arrivals.now result words.new speeds.new }
+    ensures taken { RowTaken words.old speeds.old arrivals.now (refused result) words.new speeds.new }
+    ensures next_ready { RowReady words.new speeds.new n }
 {
     let vehicles = case_words::vehicles_in(words, FIRST_CASE, n);
-    let r = calls::row_number(words, speeds, arrivals, n, vehicles);
-    if r != 0 {
-        return r;
-    }
+    calls::check_row(words, speeds, arrivals, n, vehicles)?;
     accepted_step(words, speeds, arrivals, n, vehicles);
-    0
-}
-
-// Room for the arrivals of one row.
-fn no_arrivals() -> [u32; 40]
-    ensures { result ≡ replicate 40 0 }
-{
-    [0; 40]
+    Ok(())
 }
 
 // Row k of a file of n segments, counted from 0, as a step.
-fn take_row(words: &mut [u64], speeds: &mut [f64], file: &[u8], n: usize, k: usize) -> u64
+#[tactic(auto, using(crate::proofs::Stepping::row_fits))]
+fn take_row(
+    words: &mut [u64],
+    speeds: &mut [f64],
+    file: &[u8],
+    n: usize,
+    k: usize,
+) -> Result<(), Refusal>
     requires row_ready { RowReady words.old speeds.old n }
     requires accepted_survey { AcceptedSurvey n file.now × (k < rows_on file.now) }
-    ensures { RowTaken words.old speeds.old (row_on file.now k) result words.new speeds.new }
+    ensures taken { RowTaken words.old speeds.old (row_on file.now k) (refused result) words.new speeds.new }
+    ensures next_ready { RowReady words.new speeds.new n }
 {
-    let mut row = no_arrivals();
+    // a network has at most 40 segments
+    let mut row = [0; 40];
     survey::row(file, n, k, &mut row);
     step_row(words, speeds, &row[..n], n)
 }
 
-// The rows of a file of n segments, up to the first that is refused: how many were taken, and the number that refused the next, or 0.
+// The rows of a file of n segments, up to the first that is refused.
+#[tactic(auto, using(crate::proofs::Running::row_loop))]
 pub(crate) fn run_rows(words: &mut [u64], speeds: &mut [f64], file: &[u8], n: usize) -> Ran
     requires row_ready { RowReady words.old speeds.old n }
     requires accepted_survey { AcceptedSurvey n file.now }
-    ensures { Gives (run_rows perform 0 (rows_in file.now) (lent words.old speeds.old)) (ran_says result) words.new speeds.new }
+    ensures { Gives (run_rows perform 0 (rows_in file.now) (lent words.old speeds.old)) (ran_says (Ok result)) words.new speeds.new }
 {
     let rows = survey::row_count(file);
-    let mut k: u64 = 0;
-    while k < rows {
-        let next = k + 1;
-        let stopped = take_row(words, speeds, file, n, k as usize);
-        let ends = stopped != 0;
-        if ends {
-            return Ran::Rows { taken: k, stopped };
+    for k in 0..rows {
+        if let Err(why) = take_row(words, speeds, file, n, k as usize) {
+            return Ran {
+                taken: k,
+                stopped: Some(why),
+            };
         }
-        k = next;
     }
-    Ran::Rows {
+    Ran {
         taken: rows,
-        stopped: 0,
+        stopped: None,
     }
 }

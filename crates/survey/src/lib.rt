@@ -4,39 +4,36 @@
 mod arrivals; // arrivals.rt: arrivals read one after the other
 mod writer; // writer.rt: what refuses a list, the head and the arrivals written
 
-ghost use Rattle.std.specs.Prelude.{◌≡◌, ◌+◌, ◌*◌, ◌<◌, ◌≤◌, ◌++◌, length, drop};
+ghost use Rattle.std.specs.Prelude.{◌≡◌, ◌+◌, ◌*◌, ◌<◌, ◌≤◌, ◌++◌, length, drop, IfOk};
 ghost use Rattle.laws.specs.Lists.{table};
+ghost use Rattle.laws.specs.Refusal.{refused};
 ghost use Rattle.survey_file.specs.File.{has_mark, rows_on, arrival_on, survey_number};
-ghost use Rattle.survey_file.specs.Read.{read_answer, read_list};
+ghost use Rattle.survey_file.specs.Read.{read_number, read_list};
 ghost use Rattle.survey_file.specs.Written.{write_number, written_survey};
 
-use survey_file::Survey;
+use laws::Refusal;
 
 fn has_mark(file: &[u8]) -> bool
-    requires { 8 ≤ length file.now }
     ensures { result ≡ has_mark file.now }
 {
-    let mark = b"FWD";
-    (file[0] == mark[0]) & (file[1] == mark[1]) & (file[2] == mark[2])
+    file.starts_with(b"FWD")
 }
 
-// The number that refuses the file to a study or a reader of n segments, and 0 where it is accepted.
-pub fn number(file: &[u8], n: u64) -> u64
-    ensures { result ≡ survey_number n file.now }
+// Whether a study or a reader of n segments may take the file, and if not, why.
+#[tactic(auto, unfolding(survey_file::specs::File::survey_number, laws::specs::First::row, laws::specs::First::any_of, laws::specs::First::or_from))]
+pub fn check(file: &[u8], n: u64) -> Result<(), Refusal>
+    ensures { refused result ≡ survey_number n file.now }
 {
-    if file.len() < 8 {
-        return 25;
-    }
-    if !has_mark(file) | (arrays::number::u16_at(file, 3) != 1) {
-        return 25;
+    if file.len() < 8 || !has_mark(file) || arrays::number::u16_at(file, 3) != 1 {
+        return Err(Refusal::NotASurvey);
     }
     let size = arrays::number::byte_at(file, 5);
     let rows = row_count(file);
     let whole = 8 + 4 * (rows * size);
-    if arrays::outside(1, n, 40) | (size != n) | (20000 < rows) | (file.len() as u64 != whole) {
-        return 26;
+    if arrays::outside(1, n, 40) || size != n || 20000 < rows || file.len() as u64 != whole {
+        return Err(Refusal::SurveySize);
     }
-    0
+    Ok(())
 }
 
 // How many rows the head says.
@@ -51,37 +48,35 @@ pub fn row(file: &[u8], n: usize, r: usize, out: &mut [u32])
     requires { (8 + 4 * (r * n + n) ≤ length file.now) × (n ≤ length out.old) }
     ensures { out.new ≡ table (λ i. arrival_on file.now (r * n + i)) n ++ drop n out.old }
 {
-    arrivals::put(file, r * n, n, out);
+    arrivals::put(file, r * n, &mut out[..n]);
 }
 
-// The reader: all arrivals go over the first places of the list, later places stay. A refused call leaves the list as it came.
-pub fn read(file: &[u8], n: u64, list: &mut [u32]) -> Survey
-    ensures value { result ≡ read_answer n file.now list.old }
+// The reader: all arrivals go over the first places of the list, later places stay, and the answer is the row count.
+// A refused call leaves the list as it came.
+#[tactic(auto, using(crate::proofs::Answer::reading), unfolding(survey_file::specs::Read::read_number, survey_file::specs::Read::read_list, survey_file::specs::File::arrivals_on, laws::specs::First::row))]
+pub fn read(file: &[u8], n: u64, list: &mut [u32]) -> Result<u64, Refusal>
+    ensures refusal { refused result ≡ read_number n file.now list.old }
+    ensures rows { IfOk result (λ rows. rows ≡ rows_on file.now) }
     ensures list_after { list.new ≡ read_list n file.now list.old }
 {
-    let r = number(file, n);
-    if r != 0 {
-        return Survey::Refused(r);
-    }
+    check(file, n)?;
     let rows = row_count(file);
-    let count = rows * n;
-    if (list.len() as u64) < count {
-        return Survey::Refused(24);
+    let count = (rows * n) as usize;
+    if list.len() < count {
+        return Err(Refusal::NoRoom);
     }
-    arrivals::put(file, 0, count as usize, list);
-    Survey::Rows(rows)
+    arrivals::put(file, 0, &mut list[..count]);
+    Ok(rows)
 }
 
 // The writer: the file goes over the first bytes of out, later bytes stay. A refused call leaves them as they came.
-pub fn write(n: u64, list: &[u32], out: &mut [u8]) -> u64
-    ensures value { result ≡ write_number n list.now out.old }
+#[tactic(auto, using(crate::proofs::Answer::writing), unfolding(survey_file::specs::Written::written_survey))]
+pub fn write(n: u64, list: &[u32], out: &mut [u8]) -> Result<(), Refusal>
+    ensures value { refused result ≡ write_number n list.now out.old }
     ensures out_after { out.new ≡ written_survey n list.now out.old }
 {
-    let r = writer::refusal(n, list, out);
-    if r != 0 {
-        return r;
-    }
+    writer::check(n, list, out)?;
     writer::put_head(out, n, list.len() as u64 / n);
     writer::put_arrivals(list, out);
-    0
+    Ok(())
 }

@@ -2,8 +2,6 @@
 use Rattle.std.specs.Prelude.{ℕ, ◌*◌, ◌≡◌, List, ◌++◌, ltb, length, drop}
 use Rattle.laws.specs.First.{row, first, if_accepted}
 use Rattle.laws.specs.Lists.{parts}
-use Rattle.survey_file.specs.declared.Survey.{Survey}
-use Rattle.survey_file.specs.declared.Survey.TheVariants as survey
 use Rattle.survey_file.specs.File.{size_on, rows_on, arrivals_on, row_on, survey_number}
 
 -- 25; 26; last 24 where the lent list is too short
@@ -13,9 +11,6 @@ read_number n b list = first (survey_number n b) (row (ltb (length list) (rows_o
 -- the list afterwards: later places stay, and a refused call leaves it as it came
 unfoldable pub read_list : ℕ → List ℕ → List ℕ → List ℕ
 read_list n b list = if_accepted (read_number n b list) (arrivals_on b ++ drop (rows_on b * size_on b) list) list
-
-unfoldable pub read_answer : ℕ → List ℕ → List ℕ → Survey
-read_answer n b list = if_accepted (read_number n b list) (survey.Rows (rows_on b)) (survey.Refused (read_number n b list))
 
 -- what it reads is the rows that a run takes, one after the other
 abbrev pub RowsAreRead : Type 0

@@ -1,4 +1,4 @@
-// Program "tallies": reads a network of one segment on standard input, initial a study on it with 20,000 mv, 90,000 m/h and a queue of
+// Program "tallies": reads a network of one segment on standard input, starts a study on it with 20,000 mv, 90,000 m/h and a queue of
 // 5,000, steps with arrivals 4,000, then 0, and prints steps, segments, queues, arrivals, exits and time at each. Where a call is
 // refused it prints the number alone.
 #![tactic(auto)]
@@ -9,70 +9,72 @@ ghost use Rattle.book.specs.Calls.{item};
 ghost use Rattle.book.specs.Perform.{perform, lent, after};
 ghost use Rattle.tallies.specs.Run.{steps, ran};
 
-fn space(x: u64) {
-    io::print_decimal(1, x);
-    io::write_all(1, b" ");
-}
+use book::CaseFigures;
+use laws::Refusal;
+use std::io;
+use std::io::Read;
 
-fn last(x: u64) {
-    io::print_decimal(1, x);
-    io::write_all(1, b"\n");
-}
+// So many bytes are read: no accepted file has as many, and those after them would not change what refuses it.
+const MOST_READ: u64 = 65536;
 
-fn line(f: book::CaseFigures) {
-    space(f.steps);
-    space(f.segments);
-    space(f.queues);
-    space(f.arrivals);
-    space(f.exits);
-    last(f.time);
-}
-
-// The live case's figures.
-fn tally(words: &[u64], speeds: &[f64]) {
-    match reports::report(words, speeds, 0) {
-        book::CaseReport::Refused(number) => last(number),
-        book::CaseReport::Figures(f) => line(f),
-    }
-}
+// The live case's figures, or what refuses a call.
+type Tally = Result<CaseFigures, Refusal>;
 
 // One step with d mv arriving at the segment.
-fn step(words: &mut [u64], speeds: &mut [f64], d: u32)
+fn step(words: &mut [u64], speeds: &mut [f64], d: u32) -> Tally
     ensures { lent words.new speeds.new ≡ (perform (item (stepped (d ∷ []))) (lent words.old speeds.old)).state }
 {
-    let arrivals = [d];
-    match study::step(words, speeds, &arrivals) {
-        book::Verdict::Refused(number) => last(number),
-        book::Verdict::Accepted => tally(words, speeds),
-    }
+    study::step(words, speeds, &[d])?;
+    reports::report(words, speeds, 0)
 }
 
-fn list(words: &mut [u64], speeds: &mut [f64])
+// A tally before the steps and after each.
+#[tactic(auto, unfolding(book::specs::Perform::after))]
+fn list(words: &mut [u64], speeds: &mut [f64]) -> [Tally; 3]
     ensures { lent words.new speeds.new ≡ after perform steps (lent words.old speeds.old) }
 {
-    io::write_all(1, b"step segments queues arrivals exits time\n");
-    tally(words, speeds);
-    step(words, speeds, 4000);
-    step(words, speeds, 0);
+    [
+        reports::report(words, speeds, 0),
+        step(words, speeds, 4000),
+        step(words, speeds, 0),
+    ]
 }
 
-fn run(file: &[u8], words: &mut [u64], speeds: &mut [f64])
+fn run(file: &[u8], words: &mut [u64], speeds: &mut [f64]) -> Result<[Tally; 3], Refusal>
     ensures { lent words.new speeds.new ≡ ran file.now (lent words.old speeds.old) }
 {
-    let mvs = [20000];
-    let initial = [90000];
-    let queues = [5000];
-    match begin::start(words, speeds, file, &mvs, &initial, &queues) {
-        book::Verdict::Refused(number) => last(number),
-        book::Verdict::Accepted => list(words, speeds),
+    begin::start(words, speeds, file, &[20000], &[90000], &[5000])?;
+    Ok(list(words, speeds))
+}
+
+fn print_refusal(rt: &impl Print, why: Refusal) -> io::Result<()> {
+    println!(rt; "{}", u64::from(why))
+}
+
+fn print_tally(rt: &impl Print, tally: Tally) -> io::Result<()> {
+    match tally {
+        Err(why) => print_refusal(rt, why),
+        Ok(f) => println!(rt;
+            "{} {} {} {} {} {}",
+            f.steps, f.segments, f.queues, f.arrivals, f.exits, f.time
+        ),
     }
 }
 
 // The arrays are long enough for 40 segments, so that a network of several is refused by its lists (13).
-fn main() {
-    let mut buffer = io::large_buffer();
-    let n = io::read_full(0, &mut buffer);
+fn main(rt: HostRuntime) -> io::Result<()> {
+    let mut file = Vec::new(rt.alloc());
+    rt.reader().take(MOST_READ).read_to_end(&mut file)?;
     let mut words = [0; 7112];
     let mut speeds = [0.0; 280];
-    run(&buffer[..n], &mut words, &mut speeds);
+    match run(&file, &mut words, &mut speeds) {
+        Err(why) => print_refusal(&rt, why),
+        Ok(tallies) => {
+            println!(rt; "step segments queues arrivals exits time")?;
+            for tally in tallies {
+                print_tally(&rt, tally)?;
+            }
+            Ok(())
+        }
+    }
 }

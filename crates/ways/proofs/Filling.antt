@@ -1,5 +1,5 @@
 -- One segment more of the table of longest ways out, filled from the end of the road.
-use Prim.Native.Nat.{ℕ, zero, suc, ◌+◌, ◌-◌, ◌≤◌, ◌<◌, max}
+use Prim.Native.Nat.{ℕ, zero, suc, ◌+◌, ◌≤◌, ◌<◌, max}
 use native.Mathlib.Nat.{eq-or-lt_of_le}
 use native.Mathlib.Omega.{arith}
 use mathlib.Core.Path.{◌≡◌, refl, sym, ap, subst, ◌∙◌}
@@ -16,31 +16,16 @@ use Rattle.emptying.specs.LongestWay.{longest_way}
 use Rattle.emptying.proofs.WayLaws.{way, way_on, way_high}
 use Rattle.ways.specs.Filled.{way_in, FilledFrom}
 
--- ---- a number's way, by the table
-
-pub way_none : (ys : List ℕ) (k : ℕ) → k ≡ 0 → 0 ≡ way_in ys k
-unfolding way_in
-way_none ys zero e = refl
-way_none ys (suc i) e = absurd (omega (arith, e))
-
-pub way_some : (ys : List ℕ) (k : ℕ) → (k ≡ 0 → ⊥) → get_or ys (k - 1) 0 ≡ way_in ys k
-unfolding way_in
-way_some ys zero e = absurd (e refl)
-way_some ys (suc i) e = ap (λ (j : ℕ). get_or ys j 0) (omega arith)
-
 -- ---- segment i, where those after it are filled; f is what follows it
 
 module _ {kept : List ℕ} {n : ℕ} (ok : SegmentsKept kept (head_in kept)) (size : n ≡ (head_in kept).size) where
   onward : (j : ℕ) → j < n → FollowingWithin n j (segment_in kept j).following
   onward = subst (λ (m : ℕ). (j : ℕ) → j < m → FollowingWithin m j (segment_in kept j).following) (sym size) ok.onward
 
-  pub follows_within : {i : ℕ} {f : Following} → i < n → f ≡ (segment_in kept i).following → FollowingWithin n i f
-  follows_within {i} l is = rw is (onward i l)
-
 module _ {kept : List ℕ} {n i : ℕ} {ys : List ℕ} {f : Following} (ok : SegmentsKept kept (head_in kept)) (size : n ≡ (head_in kept).size)
     (l : i < n) (got : FilledFrom kept n (i + 1) ys) (is : f ≡ (segment_in kept i).following) where
   follows : FollowingWithin n i f
-  follows = follows_within ok size l is
+  follows = rw is (onward ok size i l)
 
   read : (k : ℕ) → k ≤ n → (0 < k → i + 1 < k) → way_in ys k ≡ way (segment_in kept) n k
   unfolding way_in
@@ -55,8 +40,8 @@ module _ {kept : List ℕ} {n i : ℕ} {ys : List ℕ} {f : Following} (ok : Seg
         let on = ap (λ (g : Following). max (way (segment_in kept) n g.first) (way (segment_in kept) n g.second)) is in
         omega (arith, both, on, way_on (segment_in kept) n (onward ok size) i l)
 
-    pub value_high : 1 + r ≤ n
-    value_high = omega (arith, value, way_high (segment_in kept) n i)
+    pub value_high : 1 + r ≤ 40
+    value_high = omega (arith, value, way_high (segment_in kept) n i, ok.kept.within.size_high, size)
 
     pub filled : length ys ≡ n → FilledFrom kept n i (set ys i (1 + r))
     filled long = record {

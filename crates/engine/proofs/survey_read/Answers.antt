@@ -1,10 +1,9 @@
-use mathlib.Core.Path.{ap, ◌∙◌}
-use Rattle.laws.specs.First.{first}
-use Rattle.engine.proofs.Calling.{read_no_room, read_room}
+use Rattle.std.proofs.Common.{◌≤◌, length, arith}
+use Rattle.engine.proofs.Calling.{interface, list_kept}
 use Rattle.engine.proofs.survey_read.Goals as goal
 
-pub returns-then-figures-lt1 : goal.returns-then-figures-lt1
-returns-then-figures-lt1 c = read_no_room _ _ _ _ c.if-figures-lt1.true (c.no_room.ensures ∙ ap (λ m. first m 24) c.number.ensures)
-
 pub returns : goal.returns
-returns c = read_room _ _ _ _ c.if-figures-lt1.false (c.put_rows.ensures.value, c.put_rows.ensures.out_after) (c.read.ensures.value, c.read.ensures.list_after)
+returns c =
+    let room : 1 ≤ length c.args.figures.now = grind arith in
+    let kept = list_kept _ _ _ _ c.read.result c.read.ensures.refusal room in
+    record { number = grind (arith, interface); figures_are = grind (arith, interface); list_is = cc kept }

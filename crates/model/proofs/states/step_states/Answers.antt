@@ -11,7 +11,7 @@ use Rattle.metanet.specs.Words.{net_of}
 use Rattle.metanet.proofs.Entries.{blank, JoinOk}
 use Rattle.metanet.proofs.Turns.{size_high, turn_none, lengths, net_same, gone_high, gone_is, new_state_ok, turn_end, pass_ok, exit_is, turn_next}
 use Rattle.metanet.proofs.Joins.{part_ok, first_at_lem, one_ok, one_gathered, first_ok, second_ok, two_gathered}
-use Rattle.model.proofs.states.step_states.Goals.{After-following_of-f, After-join-else-f-eq0, After-new_state_in-r, At-loop-i, Start}
+use Rattle.model.proofs.states.step_states.Goals.{After-following_of-f, After-join-else-f-eq0, After-new_state_in-r, At-loop-i, Start, then-f-eq0, else-f-eq0}
 use Rattle.model.proofs.states.step_states.Goals as goal
 
 -- ---- what holds at them
@@ -28,7 +28,7 @@ long c = lengths c.requires c.loop-i.invariant.0
 passes : (c : After-new_state_in-r)
     → ((2560 ≤ length c.loop-i.words) × (c.loop-i.i < 40) × (c.new_state_in-r.result.flows.outflow ≤ 1000000000000)) × ((segment_in (net_of c.loop-i.words) c.loop-i.i).exit ≤ 1000)
 passes c =
-    pass_ok c.requires c.loop-i.invariant.0 c.loop-i-test.true c.new_state_in-r.ensures
+    pass_ok c.requires c.loop-i.invariant.0 c.loop-i-test.true (rw c.from-d.ensures at c.new_state_in-r.ensures)
 
 -- what left, by the exits and passed on to none
 all_left : (c : At-loop-i) → c.loop-i.left + (get_or c.loop-i.acc 0 blank).passed ≤ 120000000000000
@@ -40,13 +40,13 @@ all_left c =
 -- the first of the two numbers that a segment goes on to
 first_number : (c : After-following_of-f) → c.following_of-f.result.first < 41
 first_number c =
-    first_at_lem c.requires c.loop-i.invariant.0 c.loop-i-test.true c.new_state_in-r.ensures c.pass_on-rest.ensures c.following_of-f.ensures
+    first_at_lem c.requires c.loop-i.invariant.0 c.loop-i-test.true (rw c.from-d.ensures at c.new_state_in-r.ensures) c.pass_on-rest.ensures c.following_of-f.ensures
 
 -- the second of them, and what `join` asks there
 second_at_lem : (c : After-join-else-f-eq0)
     → (c.following_of-f.result.second < 41) × JoinOk (get_or (set c.loop-i.acc c.following_of-f.result.first c.join-else-f-eq0.result) c.following_of-f.result.second blank) (c.pass_on-rest.result - c.first_part-x.result) c.new_state_in-r.result.flows.outflow
 second_at_lem c =
-    second_ok c.requires c.loop-i.invariant.0 c.loop-i-test.true c.new_state_in-r.ensures c.pass_on-rest.ensures c.following_of-f.ensures c.first_part-x.ensures.0
+    second_ok c.requires c.loop-i.invariant.0 c.loop-i-test.true (rw c.from-d.ensures at c.new_state_in-r.ensures) c.pass_on-rest.ensures c.following_of-f.ensures c.first_part-x.ensures.0
     (ap (set c.loop-i.acc c.following_of-f.result.first) c.join-else-f-eq0.ensures)
 
 pub slice_bounds-kept_head-end-2 : goal.slice_bounds-kept_head-end-2
@@ -101,35 +101,39 @@ loop-i-init c = (turn_none c.requires _ c.none_yet-acc.ensures, sum_none)
 pub new_state_in-r-requires : goal.new_state_in-r-requires
 new_state_in-r-requires c = let ok = c.requires in
     let u = c.loop-i.invariant.0 in
-    (new_state_ok ok u c.loop-i-test.true, c.kept_head-h.ensures ∙ sym (ap head_in (net_same ok u)))
+    (rw c.from-d.ensures (new_state_ok ok u c.loop-i-test.true), c.kept_head-h.ensures ∙ sym (ap head_in (net_same ok u)))
 
 pub join-requires : goal.join-requires
-join-requires c = one_ok c.requires c.loop-i.invariant.0 c.loop-i-test.true c.new_state_in-r.ensures c.pass_on-rest.ensures c.following_of-f.ensures c.if-f-eq0.true
+join-requires c = one_ok c.requires c.loop-i.invariant.0 c.loop-i-test.true (rw c.from-d.ensures at c.new_state_in-r.ensures) c.pass_on-rest.ensures c.following_of-f.ensures c.if-f-eq0.true
 
 pub first_part-x-requires : goal.first_part-x-requires
-first_part-x-requires c = part_ok c.requires c.loop-i.invariant.0 c.loop-i-test.true c.new_state_in-r.ensures c.pass_on-rest.ensures c.following_of-f.ensures
+first_part-x-requires c = part_ok c.requires c.loop-i.invariant.0 c.loop-i-test.true (rw c.from-d.ensures at c.new_state_in-r.ensures) c.pass_on-rest.ensures c.following_of-f.ensures
 
 pub join-requires-else-f-eq0 : goal.join-requires-else-f-eq0
-join-requires-else-f-eq0 c = first_ok c.requires c.loop-i.invariant.0 c.loop-i-test.true c.new_state_in-r.ensures c.pass_on-rest.ensures c.following_of-f.ensures c.first_part-x.ensures.0
-
-pub loop-i-preserved-then-f-eq0 : goal.loop-i-preserved-then-f-eq0
-loop-i-preserved-then-f-eq0 c = let ok = c.requires in (
-  turn_next ok c.loop-i.invariant.0 c.loop-i-test.true c.new_state_in-r.ensures
-      (span (c.args.at + 16 * c.loop-i.i) 16) c.store.ensures
-      (one_gathered ok c.loop-i.invariant.0 c.loop-i-test.true c.new_state_in-r.ensures c.pass_on-rest.ensures c.following_of-f.ensures c.if-f-eq0.true
-      (ap (set c.loop-i.acc c.following_of-f.result.first) c.join.ensures)),
-  sum_more c.loop-i.invariant.1 (exit_is ok c.loop-i.invariant.0 c.loop-i-test.true c.new_state_in-r.ensures c.pass_on-rest.ensures) (omega (arith, (passes (goal.at.loop-i-preserved-then-f-eq0 c).After-new_state_in-r).0.2)),
-)
+join-requires-else-f-eq0 c = first_ok c.requires c.loop-i.invariant.0 c.loop-i-test.true (rw c.from-d.ensures at c.new_state_in-r.ensures) c.pass_on-rest.ensures c.following_of-f.ensures c.first_part-x.ensures.0
 
 pub loop-i-preserved : goal.loop-i-preserved
-loop-i-preserved c = let ok = c.requires in (
-  turn_next ok c.loop-i.invariant.0 c.loop-i-test.true c.new_state_in-r.ensures
-      (span (c.args.at + 16 * c.loop-i.i) 16) c.store.ensures
-      (two_gathered ok c.loop-i.invariant.0 c.loop-i-test.true c.new_state_in-r.ensures c.pass_on-rest.ensures c.following_of-f.ensures c.first_part-x.ensures.0
-      (ap (set c.loop-i.acc c.following_of-f.result.first) c.join-else-f-eq0.ensures)
-      (ap (set (set c.loop-i.acc c.following_of-f.result.first c.join-else-f-eq0.result) c.following_of-f.result.second) c.join-else-f-eq0-2.ensures)),
-  sum_more c.loop-i.invariant.1 (exit_is ok c.loop-i.invariant.0 c.loop-i-test.true c.new_state_in-r.ensures c.pass_on-rest.ensures) (omega (arith, (passes (goal.at.loop-i-preserved c).After-new_state_in-r).0.2)),
-)
+loop-i-preserved c = let ok = c.requires in
+    let made = rw c.from-d.ensures at c.new_state_in-r.ensures in
+    let put = span (c.args.at + 16 * c.loop-i.i) 16 in
+    let first = set c.loop-i.acc c.following_of-f.result.first in
+    let more = c.loop-i-test.true in
+    let inv = c.loop-i.invariant in
+    let summed = sum_more inv.1 (exit_is ok inv.0 more made c.pass_on-rest.ensures) (omega (arith, (passes (goal.at.loop-i-preserved c).After-new_state_in-r).0.2)) in
+    elim c.if-f-eq0.branch [
+      | then-f-eq0 w ↦ rw w.acc-is (
+        turn_next ok inv.0 more made put c.store.ensures
+            (one_gathered ok inv.0 more made c.pass_on-rest.ensures c.following_of-f.ensures w.if-f-eq0.true (ap first w.join.ensures)),
+        summed,
+      )
+      | else-f-eq0 w ↦ rw w.acc-is (
+        turn_next ok inv.0 more made put c.store.ensures
+            (two_gathered ok inv.0 more made c.pass_on-rest.ensures c.following_of-f.ensures w.first_part-x.ensures.0
+            (ap first w.join-else-f-eq0.ensures)
+            (ap (set (first w.join-else-f-eq0.result) c.following_of-f.result.second) w.join-else-f-eq0-2.ensures)),
+        summed,
+      )
+    ]
 
 pub returns : goal.returns
 returns c = let a = c.args in

@@ -8,6 +8,3 @@ use Rattle.model.proofs.states.step_states.Given as goal
 abbrev pub invariant-loop-i : goal.invariant-loop-i
 invariant-loop-i l = Turn l.initial.words l.initial.speeds l.arrivals l.at l.from l.n l.t l.words l.speeds l.i l.acc
     × Summed (exit_in l.initial.words l.initial.speeds l.at l.from l.n) 1000000000000 l.i l.left
-
-abbrev pub decreases-loop-i : goal.decreases-loop-i
-decreases-loop-i l = l.n - l.i

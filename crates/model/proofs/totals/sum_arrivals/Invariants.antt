@@ -5,7 +5,4 @@ use Rattle.laws.proofs.Sums.{Summed}
 use Rattle.model.proofs.totals.sum_arrivals.Given as goal
 
 abbrev pub invariant-loop-i : goal.invariant-loop-i
-invariant-loop-i l = (l.i ≤ l.n) × Summed (λ k. get_or l.arrivals k 0) 4294967296 l.i l.sum
-
-abbrev pub decreases-loop-i : goal.decreases-loop-i
-decreases-loop-i l = l.n - l.i
+invariant-loop-i l = Summed (λ k. get_or l.arrivals k 0) 4294967296 l.i l.sum

@@ -1,20 +1,13 @@
-use mathlib.Core.Path.{sym, ◌∙◌}
-use native.Mathlib.Omega.{arith}
-use Rattle.laws.proofs.Search.{first_in_table, search_begun, search_found, search_passed, search_end}
+use Rattle.std.proofs.Common.{ℕ, rules, ltb}
+use borrow.Author.Tests.{tests}
+use Rattle.format.specs.Network.{origin_number}
+use Rattle.format.specs.File.{head_of, segment_on}
 use Rattle.format.specs.Place.{bad_origin}
+use Rattle.places.proofs.Found.{first_in_range}
 use Rattle.places.proofs.search.bad_origin.Goals as goal
-
-pub loop-i-init : goal.loop-i-init
-loop-i-init c = search_begun _ _
-
-pub returns-then-origin_bad : goal.returns-then-origin_bad
-unfolding bad_origin
-returns-then-origin_bad c = let more = c.loop-i-test.true in
-    (search_found _ c.loop-i.invariant more (sym c.origin_bad.ensures ∙ c.if-origin_bad.true) ∙ sym (first_in_table _ 40), omega (arith, more))
-
-pub loop-i-preserved : goal.loop-i-preserved
-loop-i-preserved c = search_passed _ c.loop-i.invariant c.loop-i-test.true (sym c.origin_bad.ensures ∙ c.if-origin_bad.false)
 
 pub returns : goal.returns
 unfolding bad_origin
-returns c = let s = c.loop-i.invariant in (search_end _ s c.loop-i-test.false ∙ sym (first_in_table _ 40), omega (arith, s.sum))
+returns c =
+    let test = λ (i : ℕ). ltb 0 (origin_number (segment_on c.args.file.now) (head_of c.args.file.now).size i) in
+    rw c.unwrap_or.ensures (first_in_range test 40 _ _ c.find.result c.find.ensures.ran (λ x b q k. search (rules, tests)))

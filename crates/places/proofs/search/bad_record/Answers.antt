@@ -1,20 +1,12 @@
-use mathlib.Core.Path.{sym, ◌∙◌}
-use native.Mathlib.Omega.{arith}
-use Rattle.laws.proofs.Search.{first_in_table, search_begun, search_found, search_passed, search_end}
+use Rattle.std.proofs.Common.{ℕ, rules, ltb}
+use borrow.Author.Tests.{tests}
+use Rattle.format.specs.File.{head_of, record_number}
 use Rattle.format.specs.Place.{bad_record}
+use Rattle.places.proofs.Found.{first_in_range}
 use Rattle.places.proofs.search.bad_record.Goals as goal
-
-pub loop-i-init : goal.loop-i-init
-loop-i-init c = search_begun _ _
-
-pub returns-then-record_bad : goal.returns-then-record_bad
-unfolding bad_record
-returns-then-record_bad c = let more = c.loop-i-test.true in
-    (search_found _ c.loop-i.invariant more (sym c.record_bad.ensures ∙ c.if-record_bad.true) ∙ sym (first_in_table _ 40), omega (arith, more))
-
-pub loop-i-preserved : goal.loop-i-preserved
-loop-i-preserved c = search_passed _ c.loop-i.invariant c.loop-i-test.true (sym c.record_bad.ensures ∙ c.if-record_bad.false)
 
 pub returns : goal.returns
 unfolding bad_record
-returns c = let s = c.loop-i.invariant in (search_end _ s c.loop-i-test.false ∙ sym (first_in_table _ 40), omega (arith, s.sum))
+returns c =
+    let test = λ (i : ℕ). ltb 0 (record_number c.args.file.now (head_of c.args.file.now) i) in
+    rw c.unwrap_or.ensures (first_in_range test 40 _ _ c.find.result c.find.ensures.ran (λ x b q k. search (rules, tests)))

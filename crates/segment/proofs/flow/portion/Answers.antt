@@ -36,4 +36,4 @@ module _ (most room range : ℕ) (within : room ≤ 4194304) (positive : 0 < ran
           (div-eq_of_lt-le range (omega (arith, not_above)) (omega (arith, leb-false ((low_of most room range + 1) * range) (most * room) e)))
 
 pub returns : goal.returns
-returns c = let a = c.args in exact a.most a.room a.range (omega arith) c.requires.2
+returns c = let a = c.args in rw c.from.ensures (exact a.most a.room a.range (omega arith) c.requires.2)

@@ -40,28 +40,28 @@ unfolding neighbours_in
 passed_on c =
     le_trans (le_of_eq (ap (λ (o : Neighbours). o.passed) c.neighbours-o.ensures)) c.requires.0.passed
 
-pub neighbours-o-requires : goal.neighbours-o-requires
-neighbours-o-requires c = let q = c.requires.0 in
-    simp (c.segment_in-s.ensures, c.state_of-r.ensures, rest_is)
-    (record {
-      long = net_long (goal.at.neighbours-o-requires c).Start;
-      head = head_within (goal.at.neighbours-o-requires c).Start;
-      ahead = q.ahead;
-      entry = q.entry;
-      segment = own_within (goal.at.neighbours-o-requires c).Start;
-      curve = curve (goal.at.neighbours-o-requires c).Start;
-      state = q.state;
-    })
+pub invariant_of-site-clause-long : goal.invariant_of-site-clause-long
+invariant_of-site-clause-long c = net_long (goal.at.invariant_of-site-clause-long c).Start
+
+pub invariant_of-site-clause-head_within : goal.invariant_of-site-clause-head_within
+invariant_of-site-clause-head_within c = head_within (goal.at.invariant_of-site-clause-head_within c).Start
+
+pub invariant_of-site-clause-segment_ok : goal.invariant_of-site-clause-segment_ok
+invariant_of-site-clause-segment_ok c = simp c.segment_in-own.ensures (own_within (goal.at.invariant_of-site-clause-segment_ok c).Start)
+
+pub invariant_of-site-clause-curve_within : goal.invariant_of-site-clause-curve_within
+invariant_of-site-clause-curve_within c = simp c.segment_in-own.ensures (curve (goal.at.invariant_of-site-clause-curve_within c).Start)
 
 pub new_state-requires-clause-state_ok : goal.new_state-requires-clause-state_ok
 unfolding state_in
-new_state-requires-clause-state_ok c = let q = c.requires.0 in
-    simp (c.kept_entry-f.ensures, c.segment_in-s.ensures, c.state_of-r.ensures, rest_is) (q.state)
+new_state-requires-clause-state_ok c =
+    simp (c.segment_in-own.ensures, c.state_of-r.ensures, rest_is) (c.requires.0.state)
 
 pub new_state-requires-clause-d_bound : goal.new_state-requires-clause-d_bound
 unfolding state_in
-new_state-requires-clause-d_bound c = let q = c.requires.0 in
-    simp (c.kept_entry-f.ensures, c.segment_in-s.ensures, c.state_of-r.ensures, rest_is) ((q.arrival, passed_on (goal.at.new_state-requires-clause-d_bound c).After-neighbours-o, rest_long (goal.at.new_state-requires-clause-d_bound c).Start, refl))
+new_state-requires-clause-d_bound c =
+    simp (c.state_of-r.ensures, rest_is)
+    ((c.requires.0.arrival, passed_on (goal.at.new_state-requires-clause-d_bound c).After-neighbours-o, rest_long (goal.at.new_state-requires-clause-d_bound c).Start, refl))
 
 pub returns : goal.returns
 unfolding new_state_in
@@ -69,8 +69,7 @@ returns c = simp (
   c.new_state.ensures,
   c.neighbours-o.ensures,
   ← c.requires.1,
-  c.kept_entry-f.ensures,
-  c.segment_in-s.ensures,
+  c.segment_in-own.ensures,
   c.state_of-r.ensures,
   rest_is,
 )

@@ -1,7 +1,0 @@
-use Rattle.std.proofs.Common.{refl}
-use Rattle.format.specs.Words.{segment_in}
-use Rattle.network_words.proofs.following_in.Goals as goal
-
-pub returns : goal.returns
-unfolding segment_in
-returns c = refl

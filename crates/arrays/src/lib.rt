@@ -1,4 +1,5 @@
-// Tests of numbers, and numbers in bytes, that several crates use.
+// A test of a number, and numbers in bytes, that several crates use. Between usize, which has 64 bits here, and u64, between which Rust has no
+// From, `as` converts, here and in all crates above.
 #![tactic(auto)]
 
 pub mod number; // number.rt: big-endian numbers in bytes

@@ -1,18 +1,15 @@
 // Big-endian numbers in a list of bytes, read and written. A byte past the end reads as 0.
-ghost use Rattle.std.specs.Prelude.{◌≡◌, ◌+◌, ◌%◌, ◌<◌, ◌≤◌, ◌++◌, length, drop};
+ghost use Rattle.std.specs.Prelude.{◌≡◌, ◌+◌, ◌<◌, ◌≤◌, ◌++◌, length, drop};
 ghost use Rattle.laws.specs.BigEndian.{byte_at, u16_at, u32_at, u32_bytes};
 
 pub fn byte_at(b: &[u8], i: usize) -> u64
     ensures { (result ≡ byte_at b.now i) × (result < 256) }
 {
-    match b.get(i) {
-        Some(x) => u64::from(*x),
-        None => 0,
-    }
+    b.get(i).copied().map_or(0, u64::from)
 }
 
 pub fn u16_at(b: &[u8], i: usize) -> u64
-    requires { i < 1000000000000 }
+    requires { i < 100000000000000 }
     ensures { (result ≡ u16_at b.now i) × (result < 65536) }
 {
     byte_at(b, i) * 256 + byte_at(b, i + 1)
@@ -34,24 +31,14 @@ pub fn u32_at(b: &[u8], i: usize) -> u64
     if i + 4 <= b.len() {
         return u32_in(b, i);
     }
-    byte_at(b, i) * 16777216
-        + byte_at(b, i + 1) * 65536
-        + byte_at(b, i + 2) * 256
-        + byte_at(b, i + 3)
-}
-
-// The lowest byte of x.
-pub fn low(x: u64) -> u8
-    ensures { result ≡ x % 256 }
-{
-    (x % 256) as u8
+    u16_at(b, i) * 65536 + u16_at(b, i + 2)
 }
 
 // Writes over the first four bytes of the part that it is lent.
+#[tactic(auto, unfolding(laws::specs::BigEndian::u32_bytes))]
 pub fn put_u32(out: &mut [u8], x: u64)
     requires { 4 ≤ length out.old }
     ensures { out.new ≡ u32_bytes x ++ drop 4 out.old }
 {
-    let [_, _, _, _, a, b, c, d] = x.to_be_bytes();
-    out[..4].copy_from_slice(&[a, b, c, d]);
+    out[..4].copy_from_slice(&x.to_be_bytes()[4..]);
 }

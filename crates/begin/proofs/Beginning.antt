@@ -1,7 +1,7 @@
 -- Start: what it writes, part by part, and that this is what it stores.
 use Prim.Native.Nat.{ℕ, suc, ◌-◌, ◌+◌, ◌*◌, ◌≤◌, ◌<◌}
 use mathlib.Core.Path.{◌≡◌, refl, sym, ap, ◌∙◌}
-use mathlib.Core.List.{List, [], ◌∷◌, ◌++◌, append_assoc}
+use mathlib.Core.List.{List, ◌∷◌, ◌++◌, append_assoc}
 use native.Mathlib.Nat.{zero-mul, zero-add}
 use native.Mathlib.Omega.{arith}
 use native.Mathlib.Numerals.{add-one}
@@ -10,19 +10,14 @@ use lib.Seq.{drop-cons, drop-drop}
 use lib.Ieee.{Float}
 use borrow.Rule.Slice.PartMut.{put_mid}
 use Rattle.std.proofs.lemmas.List.{set_at}
-use Rattle.std.specs.Prelude.{Err}
 use Rattle.laws.specs.Lists.{table, part, put_part, parts, puts}
 use Rattle.laws.specs.Real.{real}
-use Rattle.laws.specs.Refusal.{number}
-use Rattle.laws.specs.declared.Refusal.{Refusal}
-use Rattle.laws.proofs.Lists.{get_or-table, length-table, table_ext, parts_ext, length-parts, length_part, span}
+use Rattle.laws.proofs.Lists.{get_or-table, table_ext, parts_ext, length-parts, length_part, span}
 use Rattle.laws.proofs.Puts.{part_changed, puts_none, puts_more, put_after, puts-after}
-use Rattle.laws.proofs.Refused.{number_some}
 use Rattle.format.specs.declared.Segment.{Segment}
 use Rattle.format.specs.Network.{network_from, segment_of}
 use Rattle.format.specs.File.{head_of, network_of, file_number}
 use Rattle.format.specs.Words.{kept_words}
-use Rattle.format.specs.declared.Head.{Head}
 use Rattle.format.proofs.File.{network_within}
 use Rattle.format.proofs.Kept.{length_kept}
 use Rattle.metanet.specs.declared.SegmentState.{SegmentState}
@@ -32,20 +27,22 @@ use Rattle.metanet.specs.Start.{start_state, start_case}
 use Rattle.metanet.proofs.InWords.{state_words}
 use Rattle.metanet.proofs.Written.{case_begun}
 use Rattle.book.specs.Arrangement.{case_word, start_marks}
-use Rattle.book.specs.Calls.{Call, start}
-use Rattle.book.specs.Question.{accepted, verdict_says}
+use Rattle.book.specs.Calls.{start}
+use Rattle.book.specs.Question.{accepted}
 use Rattle.book.specs.Perform.{lent, refusal_at, Performs, answer_of, start_words, stored}
-use Rattle.book.proofs.Performing.{refuses, accepts}
+use Rattle.book.proofs.Performing.{refused_call, accepts}
 use Rattle.refusal.specs.Ready.{Listed}
-use Rattle.refusal.proofs.Starting.{same_segment, start-file, start-room, start-speeds-room, start_listed}
+use Rattle.refusal.proofs.Starting.{same_segment, start-room, start-speeds-room, start_listed}
 use Rattle.begin.specs.Ready.{open_words, open_words_on, begin_words}
 
 -- ---- what is written, part by part
 
--- zeros were filled in, over a part whose length the code computed as k
-pub zeros_are : (l : List ℕ) {ys : List ℕ} (at w : ℕ) {k : ℕ} → k ≡ w → at + w ≤ length l → ys ≡ replicate (length (part at k l)) 0
-    → put_mid at k l ys ≡ put_part at w (replicate w 0) l
-zeros_are l at w is room e = part_changed l _ (λ (x : List ℕ). replicate w 0) at w _ is (e ∙ ap (λ (m : ℕ). replicate m 0) (rw is (length_part l at w room)))
+-- zeros were filled in, over a part whose place and length the code computed as p and k
+pub zeros_are : (l : List ℕ) {ys : List ℕ} (at w : ℕ) {p k : ℕ} → p ≡ at → k ≡ w → at + w ≤ length l → ys ≡ replicate (length (part p k l)) 0
+    → put_mid p k l ys ≡ put_part at w (replicate w 0) l
+zeros_are l {ys} at w {p} {k} place is room e =
+    ap (λ (m : ℕ). put_mid m k l ys) place
+    ∙ part_changed l ys (λ (x : List ℕ). replicate w 0) at w k is (e ∙ ap (λ (m : ℕ). replicate m 0) (rw (place, is) (length_part l at w room)))
 
 -- zeros in 15 places, and after them the arrangement number
 pub marks_are : (words zeros : List ℕ) → 2576 ≤ length words → zeros ≡ replicate (length (part 2560 15 words)) 0
@@ -53,25 +50,11 @@ pub marks_are : (words zeros : List ℕ) → 2576 ≤ length words → zeros ≡
 unfolding start_marks
 marks_are words zeros room e =
     let front : length (take 2560 words ++ replicate 15 0) ≡ 2575 = simp (length-append, length-take) (omega arith) in
-    ap (λ (l : List ℕ). set l 2575 3) (zeros_are words 2560 15 refl (omega arith) e)
+    ap (λ (l : List ℕ). set l 2575 3) (zeros_are words 2560 15 refl refl (omega arith) e)
     ∙ ap (λ (l : List ℕ). set (take 2560 words ++ (replicate 15 0 ++ l)) 2575 3) (drop-cons words 2575 0 (omega arith))
     ∙ ap (λ (l : List ℕ). set l 2575 3) (sym (append_assoc (take 2560 words) (replicate 15 0) _))
     ∙ set_at (take 2560 words ++ replicate 15 0) (get_or words 2575 0) (drop 2576 words) 3 2575 front
     ∙ append_assoc (take 2560 words) (replicate 15 0) (3 ∷ drop 2576 words)
-
--- the speeds, one by one
-module _ (f : ℕ → Float) (l : List Float) where
-  pub speeds_none : table f 0 ++ drop 0 l ≡ l
-  unfolding table
-  speeds_none = refl
-
-  pub speeds_more : (i : ℕ) → i < length l → table f (i + 1) ++ drop (i + 1) l ≡ set (table f i ++ drop i l) i (f i)
-  unfolding table
-  speeds_more i more =
-      rw (add-one, drop-cons l i (f i) more)
-      (append_assoc (table f i) (f i ∷ []) (drop (suc i) l) ∙ sym (set_at (table f i) (get_or l i (f i)) (drop (suc i) l) (f i) i (length-table f i)))
-
-pub ruleset speed_loop = (speeds_none, speeds_more)
 
 length_open : (mv queue most : ℕ) → length (open_words mv queue most) ≡ 16
 unfolding open_words
@@ -99,12 +82,12 @@ module _ (b mvs queues words : List ℕ) (z : file_number b ≡ 0) where
       length-append (kept_words (network_of b)) start_marks
       ∙ ap (λ (m : ℕ). m + 16) (length_kept (network_of b) (network_within b z).head.curves_high (network_within b z).head.size_high)
 
-  pub begun : {n : ℕ} {kept marked rowed last : List ℕ} → n ≡ (head_of b).size
-      → kept ≡ kept_words (network_of b) ++ drop 2560 words → marked ≡ put_part 2560 16 start_marks kept
+  pub begun : {kept marked rowed last : List ℕ} → let n = (head_of b).size in kept ≡ kept_words (network_of b) ++ drop 2560 words → marked ≡ put_part 2560 16 start_marks kept
       → rowed ≡ puts 16 (open_words_on b mvs queues) 2576 n marked → last ≡ put_part (2576 + 16 * n) 8 (replicate 8 0) rowed
       → last ≡ begin_words b mvs queues n words
   unfolding begin_words network_from
-  begun {n} {kept} {marked} {rowed} size k m r l =
+  begun {kept} {marked} {rowed} k m r l =
+      let n = (head_of b).size in
       let size_kept = length_kept (network_of b) (network_within b z).head.curves_high (network_within b z).head.size_high in
       let m' : marked ≡ front ++ drop 2576 words = m ∙ put_after words kept (kept_words (network_of b)) start_marks 2560 16 size_kept k in
       let r' : rowed ≡ (front ++ parts (open_words_on b mvs queues) n) ++ drop (2576 + 16 * n) words = r ∙ puts-after words marked front 2576 16 (open_words_on b mvs queues) n length_front m' in
@@ -157,33 +140,24 @@ module _ (b mvs speeds queues : List ℕ) (z : file_number b ≡ 0) where
 
 -- ---- the call, answered
 
--- refused, it leaves both arrays as they came
-pub start_refused : (call : Call) (words : List ℕ) (lentSpeeds : List Float) (why : Refusal) → number why ≡ refusal_at call (lent words lentSpeeds)
-    → Performs call words lentSpeeds (verdict_says (Err why)) words lentSpeeds
-start_refused call words lentSpeeds why e = refuses call words lentSpeeds e (number_some why)
+module _ (words : List ℕ) (lentSpeeds : List Float) (b mvs speeds queues : List ℕ) (taken : 0 ≡ refusal_at (start b mvs speeds queues) (lent words lentSpeeds)) where
+  -- accepted, its lists are as long as the network, and what it writes has room
+  pub told : Listed b mvs speeds queues
+  told = start_listed words lentSpeeds b mvs speeds queues (sym taken)
 
-module _ (words : List ℕ) (lentSpeeds : List Float) (b mvs speeds queues : List ℕ) (taken : 0 ≡ refusal_at (start b mvs speeds queues) (lent words lentSpeeds)) {h : Head} (is : h ≡ head_of b) where
-  listed : Listed b mvs speeds queues
-  listed = start_listed words lentSpeeds b mvs speeds queues (sym taken)
+  pub words_fit : 2584 + 16 * (head_of b).size ≤ length words
+  words_fit = omega (arith, start-room words lentSpeeds b mvs speeds queues (sym taken))
 
-  -- accepted, its file is, and what it writes has room
-  pub begun_on : (file_number b ≡ 0) × (h.size ≡ (head_of b).size)
-  begun_on = (start-file words lentSpeeds b mvs speeds queues (sym taken), ap (λ (x : Head). x.size) is)
+  pub speeds_fit : (head_of b).size ≤ length lentSpeeds
+  speeds_fit = omega (arith, start-speeds-room words lentSpeeds b mvs speeds queues (sym taken))
 
-  pub words_fit : (h.size ≤ length mvs) × (h.size ≤ length queues) × (2584 + 16 * h.size ≤ length words)
-  words_fit = rw is (omega (arith, listed.mvs_many), omega (arith, listed.queues_many), omega (arith, start-room words lentSpeeds b mvs speeds queues (sym taken)))
-
-  pub speeds_fit : (h.size ≤ length speeds) × (h.size ≤ length lentSpeeds)
-  speeds_fit = rw is (omega (arith, listed.speeds_many), omega (arith, start-speeds-room words lentSpeeds b mvs speeds queues (sym taken)))
-
-  pub start_accepted : {words' : List ℕ} {speeds' : List Float} → words' ≡ begin_words b mvs queues h.size words
-      → speeds' ≡ table (λ i. real (get_or speeds i 0)) h.size ++ drop h.size lentSpeeds
+  pub start_accepted : {words' : List ℕ} {speeds' : List Float} → let n = (head_of b).size in words' ≡ begin_words b mvs queues n words
+      → speeds' ≡ table (λ i. real (get_or speeds i 0)) n ++ drop n lentSpeeds
       → Performs (start b mvs speeds queues) words lentSpeeds accepted words' speeds'
   unfolding answer_of
   start_accepted p q =
-      let file = begun_on.0 in
       accepts (start b mvs speeds queues) words lentSpeeds (sym taken) refl
-      (rw is at p ∙ sym (start-words b mvs speeds queues file words lentSpeeds))
-      (rw is at q ∙ sym (start-speeds b mvs speeds queues file words lentSpeeds))
+      (p ∙ sym (start-words b mvs speeds queues told.file words lentSpeeds))
+      (q ∙ sym (start-speeds b mvs speeds queues told.file words lentSpeeds))
 
-pub ruleset start_call = (start_refused, begun_on, words_fit, speeds_fit, start_accepted)
+pub ruleset start_call = (refused_call, told, words_fit, speeds_fit, start_accepted)

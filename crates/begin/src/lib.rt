@@ -1,4 +1,4 @@
-// Start: a study begun on a network file.
+// Start: a study begun on a network file. Words and speeds are two parameters: the two arrays that C lends.
 #![tactic(auto)]
 
 mod words; // words.rt: the words and speeds that it puts in
@@ -7,6 +7,7 @@ ghost use Rattle.book.specs.Perform.{Performs};
 ghost use Rattle.book.specs.Calls.{start};
 ghost use Rattle.book.specs.Question.{verdict_says};
 
+use crate::words::Told;
 use laws::Refusal;
 
 // Begins a study on a network file: for each segment initial mv, speed in whole m/h and queue in mv. All ramps are open, signs dark,
@@ -23,8 +24,13 @@ pub fn start(
     ensures { Performs (start file.now mvs.now initial.now queues.now) words.old speeds.old (verdict_says result) words.new speeds.new }
 {
     refusal::start::check(words, speeds, file, mvs, initial, queues)?;
-    let n = network::head_of(file).size as usize;
-    words::put_words(words, file, mvs, queues, n);
-    words::put_speeds(speeds, initial, n);
+    let told = Told {
+        file,
+        mvs,
+        initial,
+        queues,
+    };
+    told.put_words(words);
+    told.put_speeds(speeds);
     Ok(())
 }

@@ -5,6 +5,9 @@ use mathlib.Core.Bool.{true, false, ◌||◌, not}
 use mathlib.Core.List.{List}
 use lib.Ieee.{Float}
 use borrow.Author.Tests.{not-false}
+use Rattle.laws.specs.declared.Refusal.{Refusal}
+use Rattle.laws.specs.Refusal.{number}
+use Rattle.laws.proofs.Refused.{number_some}
 use Rattle.laws.proofs.First.{row_applies, row_skipped, row_passed}
 use Rattle.book.specs.Arrangement.{network_at, run_count_at, case_at}
 use Rattle.book.specs.Sound.{sound}
@@ -42,6 +45,10 @@ module _ (c : Call) (words : List ℕ) (speeds : List Float) where
         words_are = ap (λ (o : Outcome Arrays). o.state.words) (sym is);
         speeds_are = ap (λ (o : Outcome Arrays). o.state.speeds) (sym is);
       }
+
+  -- so does one whose refusal the code found
+  pub refused_call : (why : Refusal) → number why ≡ refusal_at c a → Performs c words speeds (refused (number why)) words speeds
+  refused_call why e = refuses e (number_some why)
 
   -- an accepted one stores and answers
   pub accepts : {answer : Answer} {words' : List ℕ} {speeds' : List Float} → refusal_at c a ≡ 0

@@ -4,7 +4,6 @@
 ghost use Rattle.std.specs.Prelude.{◌≡◌, ◌+◌, ◌*◌, ◌<◌, ◌≤◌, ℕ, length};
 ghost use Rattle.laws.specs.Real.{real};
 ghost use Rattle.format.specs.Words.{head_in, entry_in, segment_in};
-ghost use Rattle.format.proofs.Accepted.{SegmentsKept};
 ghost use Rattle.metanet.specs.Step.{on_ramp};
 ghost use Rattle.metanet.specs.Words.{sign_in, ramp_in, flows_in, state_in};
 ghost use Rattle.laws.specs.Sums.{sum_of};
@@ -12,109 +11,150 @@ ghost use Rattle.metanet.proofs.Ready.{vehicles_at};
 ghost use Rattle.case_words.specs.Sums.{figure_at, Summable};
 
 use metanet::{Flows, Ramp, SegmentState, SignSetting};
+use network_words::kept::Judged;
 
-// The word of the run count, k words before the mark of slot k; that of the arrangement number, and this number; and the first word of
-// the live case, before those of the slots.
+// The word of the run count; the mark of slot k stands k words after it.
 pub const RUN_WORD: usize = network_words::NETWORK_WORDS;
 
+// The word of the arrangement number, and that number.
 pub const ARRANGEMENT_WORD: usize = RUN_WORD + 15;
 
 pub const ARRANGEMENT: u64 = 3;
 
+// The first word of the live case.
 pub const FIRST_CASE: usize = RUN_WORD + 16;
 
-// The sign of the state at the start of these words.
-#[tactic(auto, unfolding(metanet::specs::Words::sign_in))]
-fn sign_in(w: &[u64]) -> SignSetting
-    requires { 16 ≤ length w.now }
-    ensures { result ≡ sign_in w.now }
-{
-    SignSetting {
-        limit: w[2],
-        compliance: w[3],
+// Where the cases of a study of n segments stand: case 0 is the live one, 1 to 6 are the slots. The bound of k stays with the call, as that
+// of any index: a struct of both would be made anew at each.
+#[derive(Clone, Copy)]
+pub struct Cases {
+    pub n: usize,
+    ghost few: { n ≤ 40 },
+}
+
+impl Cases {
+    // How many words a case has: 16 a state, and 8 for the totals.
+    pub fn length(&self) -> usize
+        ensures { result ≡ 16 * self.now.n + 8 }
+    {
+        16 * self.n + 8
+    }
+
+    // The first word of case k.
+    pub fn word(&self, k: usize) -> usize
+        requires { k ≤ 6 }
+        ensures { result ≡ 2576 + k * (16 * self.now.n + 8) }
+    {
+        FIRST_CASE + k * self.length()
+    }
+
+    // The first word of its totals.
+    pub fn totals(&self, k: usize) -> usize
+        requires { k ≤ 6 }
+        ensures { result ≡ 2576 + k * (16 * self.now.n + 8) + 16 * self.now.n }
+    {
+        self.word(k) + 16 * self.n
+    }
+
+    // Its first speed.
+    pub fn speed(&self, k: usize) -> usize
+        requires { k ≤ 6 }
+        ensures { result ≡ k * self.now.n }
+    {
+        k * self.n
     }
 }
 
-// Its ramp.
-#[tactic(auto, unfolding(metanet::specs::Words::ramp_in))]
-pub fn ramp_in(w: &[u64]) -> Ramp
-    requires { 16 ≤ length w.now }
-    ensures { result ≡ ramp_in w.now }
-{
-    Ramp {
-        kind: w[4],
-        rate: w[5],
-        target: w[6],
-        gain: w[7],
-        least: w[8],
-        interval: w[9],
-        sum: w[12],
-        summed: w[13],
+// The words of a segment's state, which is read at their start.
+#[derive(Clone, Copy)]
+pub struct StateWords<'a> {
+    pub words: &'a [u64],
+    ghost long: { 16 ≤ length words.now },
+}
+
+impl StateWords<'_> {
+    #[tactic(auto, unfolding(metanet::specs::Words::sign_in))]
+    fn sign(&self) -> SignSetting
+        ensures { result ≡ sign_in self.now.words.now }
+    {
+        SignSetting {
+            limit: self.words[2],
+            compliance: self.words[3],
+        }
+    }
+
+    #[tactic(auto, unfolding(metanet::specs::Words::ramp_in))]
+    pub fn ramp(&self) -> Ramp
+        ensures { result ≡ ramp_in self.now.words.now }
+    {
+        Ramp {
+            kind: self.words[4],
+            rate: self.words[5],
+            target: self.words[6],
+            gain: self.words[7],
+            least: self.words[8],
+            interval: self.words[9],
+            sum: self.words[12],
+            summed: self.words[13],
+        }
+    }
+
+    #[tactic(auto, unfolding(metanet::specs::Words::flows_in))]
+    fn flows(&self) -> Flows
+        ensures { result ≡ flows_in self.now.words.now }
+    {
+        Flows {
+            outflow: self.words[10],
+            release: self.words[11],
+        }
+    }
+
+    // The whole state, at speed v.
+    #[tactic(auto, unfolding(metanet::specs::Words::state_in))]
+    pub fn state(&self, v: f64) -> SegmentState
+        ensures { result ≡ state_in self.now.words.now v }
+    {
+        SegmentState {
+            count: self.words[0],
+            queue: self.words[1],
+            sign: self.sign(),
+            ramp: self.ramp(),
+            flows: self.flows(),
+            speed: v,
+        }
     }
 }
 
-// Its flows.
-#[tactic(auto, unfolding(metanet::specs::Words::flows_in))]
-fn flows_in(w: &[u64]) -> Flows
-    requires { 16 ≤ length w.now }
-    ensures { result ≡ flows_in w.now }
+// Whether segment i, counted from 0, has a ramp, an origin with a segment before it: a release merges there, and it may be metered.
+pub fn on_ramp(judged: &Judged<'_>, i: usize) -> bool
+    requires { i < (head_in judged.now.net.words.now).size }
+    ensures { let w = judged.now.net.words.now in result ≡ on_ramp (head_in w) (entry_in w) (segment_in w) i }
 {
-    Flows {
-        outflow: w[10],
-        release: w[11],
-    }
-}
-
-// The state at the start of these words.
-#[tactic(auto, unfolding(metanet::specs::Words::state_in))]
-pub fn state_of(w: &[u64], v: f64) -> SegmentState
-    requires { 16 ≤ length w.now }
-    ensures { result ≡ state_in w.now v }
-{
-    SegmentState {
-        count: w[0],
-        queue: w[1],
-        sign: sign_in(w),
-        ramp: ramp_in(w),
-        flows: flows_in(w),
-        speed: v,
-    }
-}
-
-// Whether segment i, counted from 0, of the kept network has a ramp, an origin with a segment before it: a release merges there, and it may
-// be metered.
-pub fn is_on_ramp(kept: &[u64], i: usize) -> bool
-    requires segments_kept { SegmentsKept kept.now (head_in kept.now) }
-    requires i_bound { i < (head_in kept.now).size }
-    ensures { result ≡ on_ramp (head_in kept.now) (entry_in kept.now) (segment_in kept.now) i }
-{
-    network_words::kept_origin(kept, i) == 1 && network_words::has_before(kept, i)
+    judged.net.origin(i) == 1 && judged.has_before(i)
 }
 
 // The mv in segments and queues of a case whose counts and queues are at most 10^12 each.
-#[tactic(auto, unfolding(laws::specs::Sums::sum_of))]
 pub fn vehicles_in(words: &[u64], at: usize, n: usize) -> u64
     requires n_bound { (n ≤ 40) × (at + 16 * n ≤ length words.now) }
     requires by_index { (i : ℕ) → i < n → vehicles_at words.now at i ≤ 2000000000000 }
     ensures { (result ≡ sum_of (vehicles_at words.now at) n) × (result ≤ 2000000000000 * n) }
 {
     let mut sum = 0;
-    for i in 0..n {
-        let a = at + 16 * i;
-        sum += words[a] + words[a + 1];
+    for w in words[at..at + 16 * n].chunks_exact(16) {
+        sum += w[0] + w[1];
     }
     sum
 }
 
-// The sum of figure o of the n states that start at word at.
-#[tactic(auto, unfolding(laws::specs::Sums::sum_of))]
+// The sum of figure o of the n states that start at word at. Counts and queues are summed apart for a report, and in one pass for the rows: a
+// sum of either would be two passes, and one over a closure has to say what the closure gives.
 pub fn column(words: &[u64], at: usize, o: usize, n: usize) -> u64
     requires { Summable words.now at o n }
     ensures { result ≡ sum_of (figure_at words.now at o) n }
 {
     let mut sum = 0;
-    for i in 0..n {
-        sum += words[at + 16 * i + o];
+    for w in words[at..at + 16 * n].chunks_exact(16) {
+        sum += w[o];
     }
     sum
 }

@@ -6,10 +6,8 @@ use Rattle.laws.specs.declared.Refusal.{Refusal}
 use Rattle.laws.specs.declared.Refusal.TheVariants as refusal
 use Rattle.laws.specs.First.{row, first, if_accepted}
 use Rattle.laws.specs.Refusal.{number, refused}
-use Rattle.laws.proofs.First.{row_applies, row_skipped, first_some, when_accepted, when_refused}
-use Rattle.laws.proofs.Refused.{number_some}
-use Rattle.format.specs.File.{curve_start}
-use Rattle.format.specs.Curve.{curve_call_number}
+use Rattle.laws.proofs.First.{row_applies, row_skipped, first_zero, first_some, when_accepted, when_refused}
+use Rattle.laws.proofs.Refused.{number_above, number_some, first_above, lent_stays}
 use Rattle.format.proofs.CurveCall.{curve_below}
 use Rattle.survey_file.specs.File.{size_on, rows_on, rows_in, survey_number}
 use Rattle.survey_file.specs.Read.{read_number, read_list}
@@ -21,20 +19,7 @@ use Rattle.book.specs.Run.{unless_stopped, step_call, run_rows, run_refusal, per
 use Rattle.book.proofs.Performing.{unless-number}
 use Rattle.book.proofs.Sim.{on_arrays}
 use Rattle.book.specs.Write.{write_refusal, write_answer}
-use Rattle.engine.specs.Study.{told_number, told_words, figures_unless, curve_place, rows_read}
-
--- ---- where a curve stands
-
-module _ (b : List ℕ) (k : ℕ) where
-  pub curve_refused : (why : Refusal) → number why ≡ curve_call_number b k → answer.refused (number why) ≡ curve_place b k
-  curve_refused why is = rw (← is) (sym (when_refused _ _ _ (number_some why)))
-
-  module _ (is : 0 ≡ curve_call_number b k) where
-    pub curve_low : k < 8
-    curve_low = curve_below _ _ (sym is)
-
-    pub curve_there : figures (curve_start k ∷ 804 ∷ []) ≡ curve_place b k
-    curve_there = sym (when_accepted _ _ _ (sym is))
+use Rattle.engine.specs.Study.{told_number, told_words, figures_unless, rows_read}
 
 -- ---- calls on a study
 
@@ -216,12 +201,6 @@ module _ (n : ℕ) (file list out : List ℕ) where
   abbrev answer_read : Answer
   answer_read = rows_read n file list
 
-  pub read_refused : (why : Refusal) → number why ≡ read_number n file list → answer_read ≡ answer.refused (number why)
-  read_refused why is = rw (← is) (when_refused _ _ _ (number_some why))
-
-  pub read_counted : (k : ℕ) → 0 ≡ read_number n file list → k ≡ rows_on file → answer_read ≡ figures (k ∷ [])
-  read_counted k is e = when_accepted _ _ _ (sym is) ∙ sym (ap (λ (j : ℕ). figures (j ∷ [])) e)
-
   -- with room for the row count only the reader's own number says whether the list was read
   pub list_kept : (v : Result ℕ Refusal) → refused v ≡ read_number n file list → 1 ≤ length out
       → if_accepted (told_number (count_says v) out) (read_list n file list) list ≡ read_list n file list
@@ -261,11 +240,13 @@ written words speeds out v is = says_it v ∙ ap number_of is ∙ go (write_refu
     go zero xs = unfold if_accepted in refl
     go (suc m) xs = unfold if_accepted in refl
 
+-- what puts figures into the lent words
+pub ruleset telling = (number_above, first_above, first_zero, lent_stays, when_accepted)
+
 -- what the functions of the interface need
 pub ruleset interface = (
-  curve_refused,
-  curve_low,
-  curve_there,
+  curve_below,
+  telling,
   nothing_told,
   call_number,
   call_words,
@@ -276,8 +257,6 @@ pub ruleset interface = (
   run_short,
   run_figures_stay,
   no_room_stays,
-  read_refused,
-  read_counted,
   read_short,
   read_figures_stay,
   written,

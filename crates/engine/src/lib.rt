@@ -52,7 +52,7 @@ fn curve_place(file: &[u8], k: u64) -> Result<[u64; 2], Refusal>
     ensures { says figures result ≡ curve_place file.now k }
 {
     network::check_curve(file, k)?;
-    Ok([16 + 804 * k, 804])
+    Ok([network::curve_start(k as u32), 804])
 }
 
 // The offset into place[0] and the length into place[1].
@@ -75,7 +75,7 @@ pub extern "C" fn network_place(file: &[u8], place: &mut [u64]) -> u64
 
 // ---- a survey file
 
-// Its arrivals for n segments into a list, its row count into figures[0].
+// Its arrivals for n segments into a list, its row count into figures[0]. Without room for that no arrival is put.
 #[unsafe(no_mangle)]
 pub extern "C" fn survey_read(file: &[u8], n: u64, arrivals: &mut [u32], figures: &mut [u64]) -> u64
     ensures { CalledRead n file.now arrivals.old figures.old result arrivals.new figures.new }
@@ -194,8 +194,7 @@ pub extern "C" fn study_run(
 ) -> u64
     ensures { CalledRun file.now words.old speeds.old figures.old result words.new speeds.new figures.new }
 {
-    let short = figures.len() < 2;
-    if short {
+    if figures.len() < 2 {
         return number_of(calls::check_run(words, speeds, file).and(Err(Refusal::NoRoom)));
     }
     number_of(report::put(study::run(words, speeds, file), figures))

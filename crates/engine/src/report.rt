@@ -100,8 +100,8 @@ impl Figures<4> for Option<Place> {
 }
 
 // Puts what a call answers over the first words of out; later words stay. NoRoom where out is too short: like any other refusal, that
-// leaves out as it came.
-#[tactic(auto, unfolding(laws::specs::First::row, laws::specs::First::first, laws::specs::First::if_accepted, crate::specs::Study::told_number, crate::specs::Study::told_words,),)]
+// leaves out as it came. No answer has more than seven words, and an array of N words has to fit into memory.
+#[tactic(auto, using(crate::proofs::Calling::telling), unfolding(laws::specs::First::row, crate::specs::Study::told_number, crate::specs::Study::told_words))]
 pub(crate) fn put<const N: usize, T: Figures<N>>(
     answer: Result<T, Refusal>,
     out: &mut [u64],

@@ -1,7 +1,9 @@
 // Program "inspect": reads a network on standard input and says what is wrong with it and where, or, where it is accepted, what it
-// holds. The place is that of the crate `places`; here it is only put into words.
+// holds. The place is that of the crate `places`; here it is only put into words. Heads and segments are types of another crate, and each
+// is printed in one place: a Display of theirs would be no plainer.
 #![tactic(auto)]
 
+mod field; // field.rt: a field that breaks a rule, and what is said of it
 mod head; // head.rt: the fields of the head and their ranges
 mod record; // record.rt: the fields of a record and their ranges
 mod followers; // followers.rt: what follows a segment

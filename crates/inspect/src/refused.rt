@@ -83,8 +83,7 @@ fn tell_reason(rt: &impl Print, file: &[u8], p: Place) -> io::Result<()> {
 }
 
 pub(crate) fn tell(rt: &impl Print, file: &[u8], p: Place) -> io::Result<()> {
-    let number = u64::from(p.refusal);
-    print!(rt; "refused by {number} at byte {}: ", p.offset)?;
+    print!(rt; "refused by {} at byte {}: ", p.refusal, p.offset)?;
     tell_reason(rt, file, p)?;
     println!(rt)
 }

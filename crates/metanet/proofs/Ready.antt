@@ -152,16 +152,21 @@ new_state_in net rest v d i t e =
     let r = state_in rest v in
     new_state h s (entry_in net s.curve 0) r t d (eqb s.origin 1 && not (eqb e.segments 0)) (neighbours_in net rest h i s r e)
 
-pub record NewStateOk (words : List ℕ) (a : ℕ) (v : Float) (d i : ℕ) (e : Entry) : Type 0 where
+-- segment i of the network in the first words, whose state starts at word a and whose speed is v
+pub record SegmentAt (words : List ℕ) (i a : ℕ) (v : Float) : Type 0 where
   pub net : NetworkOk words
   pub long : 2560 ≤ length words
   pub more : i < (head_in (net_of words)).size
   pub room : a + 16 ≤ length words
   pub ahead : AheadOk (net_of words) (drop a words) i (segment_in (net_of words) i).following
+  pub state : StateOk (segment_in (net_of words) i) (entry_in (net_of words) (segment_in (net_of words) i).curve 0) (state_in (drop a words) v)
+
+-- and what its new state is made of: its arrivals and what enters it
+pub record NewStateOk (words : List ℕ) (a : ℕ) (v : Float) (d i : ℕ) (e : Entry) : Type 0 where
+  pub place : SegmentAt words i a v
   pub arrival : d ≤ 1000000
   pub passed : e.passed ≤ 100000000000000
   pub entry : e.outflows ≤ 100000000000000
-  pub state : StateOk (segment_in (net_of words) i) (entry_in (net_of words) (segment_in (net_of words) i).curve 0) (state_in (drop a words) v)
 
 -- what a step of the states leaves, and what it counts out: exit parts and what is passed on to none
 pub record Stepped (words : List ℕ) (speeds : List Float) (ds : List ℕ) (at from n t : ℕ) (words' : List ℕ) (speeds' : List Float) (left : ℕ) : Type 0 where

@@ -10,7 +10,7 @@ use lib.ListN.{get_or}
 use borrow.Author.Tests.{ltb-false, leb-false}
 use Rattle.laws.specs.First.{any_of, or_from, row, first, first_of}
 use Rattle.laws.specs.Sums.{sum_of}
-use Rattle.laws.proofs.First.{row_applies, row_passed, row_later, first_zero_left, first_zero_right, first_of-zero}
+use Rattle.laws.proofs.First.{row_applies, row_passed, row_later, first_zero_left, first_zero_right, first_of-zero, all_same}
 use Rattle.laws.proofs.Sums.{sum_high}
 use Rattle.laws.proofs.Tests.{or_left, any_of_false}
 use Rattle.format.specs.declared.Head.{Head}
@@ -55,18 +55,6 @@ module _ (h : Head) (entry : ℕ → ℕ → ℕ) (segment : ℕ → Segment) (c
     pub total_within : sum_of (vehicles_in c.states) h.size ≤ mv_most
     unfolding totals_bad
     total_within = ltb-false _ _ (any_of_false _ (row_passed _ _ _ (first_zero_right (first_of (mean_number c.states) h.size) _ case_again)) 0)
-
--- rows that all have the number 12, and 12 after them
-one_more : (m : ℕ) (b : Bool) → first m 12 ≡ 12 → first (first m (row b 12 0)) 12 ≡ 12
-unfolding first row
-one_more zero true e = refl
-one_more zero false e = refl
-one_more (suc m) b e = e
-
-all_twelve : (bad : ℕ → Bool) (n : ℕ) → first (first_of (λ i. row (bad i) 12 0) n) 12 ≡ 12
-unfolding first first_of
-all_twelve bad zero = refl
-all_twelve bad (suc n) = one_more (first_of (λ i. row (bad i) 12 0) n) _ (all_twelve bad n)
 
 -- more mv in all than may be
 over : (vehicles steps arrivals exits time : ℕ) → ltb mv_most vehicles ≡ true → totals_bad vehicles steps arrivals exits time ≡ true
@@ -138,11 +126,11 @@ module _ {h : Head} {entry : ℕ → ℕ → ℕ} {segment : ℕ → Segment} (w
 
   states_twelve : (n : ℕ) → first (first_of (state_number h entry segment new) n) 12 ≡ 12
   unfolding state_number
-  states_twelve = all_twelve (λ i. state_bad (on_ramp h entry segment i) (segment i) (free_speed h entry segment i) (state_of new i))
+  states_twelve = all_same 12 (λ i. state_bad (on_ramp h entry segment i) (segment i) (free_speed h entry segment i) (state_of new i))
 
   means_twelve : (n : ℕ) → first (first_of (mean_number new) n) 12 ≡ 12
   unfolding mean_number
-  means_twelve = all_twelve (λ i. average_bad (state_of new i).ramp.sum (state_of new i).ramp.summed)
+  means_twelve = all_same 12 (λ i. average_bad (state_of new i).ramp.sum (state_of new i).ramp.summed)
 
   -- 12 of the case after the step
   pub step_judged : case_number h entry segment after ≡ judged_again h.size after

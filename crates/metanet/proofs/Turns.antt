@@ -244,15 +244,17 @@ module _ {ws : List ℕ} {vs : List Float} {ds : List ℕ} {at from n : ℕ} (ok
       pub new_state_ok : NewStateOk words (at + 16 * i) (get_or speeds (from + i) nan) (get_or ds i 0) i (get_or acc (i + 1) blank)
       new_state_ok =
           record {
-            net = rw net_same ok.net;
-            long = omega (arith, same_words, ok.past, ok.room);
-            more = rw net_same (at_size i h);
-            room = omega (arith, same_words, ok.room);
-            ahead = rw (net_same, rest_same) ahead_ok;
+            place = record {
+              net = rw net_same ok.net;
+              long = omega (arith, same_words, ok.past, ok.room);
+              more = rw net_same (at_size i h);
+              room = omega (arith, same_words, ok.room);
+              ahead = rw (net_same, rest_same) ahead_ok;
+              state = rw (net_same, rest_same, speed_same) (ok.state i h);
+            };
             arrival = ok.arrival i h;
             passed = omega (arith, high_all.passed_high, size_high);
             entry = omega (arith, high_all.outflows_high, size_high);
-            state = rw (net_same, rest_same, speed_same) (ok.state i h);
           }
 
       fresh_is : new_state_in (net_of words) (drop (at + 16 * i) words) (get_or speeds (from + i) nan) (get_or ds i 0) i t (get_or acc (i + 1) blank) ≡ step_state_in ws vs at from n t ds i

@@ -1,7 +1,8 @@
 // A case and one METANET step with ALINEA ramps: their types. specs/ says what they mean, proofs/ has the theorems; there is no code here.
 #![tactic(auto)]
 
-// What stands in words is read into these structs as it is, a kind as a number and 0 for none: words may hold anything, and are judged so.
+// What stands in words is read into these structs as it is, a kind as a number and 0 for none: words may hold anything, are judged so, and the
+// definitions go by these numbers.
 
 // What a sign is set to: the limit in km/h, 0 where it is dark; compliance in thousandths with 500 added, 0 where it is dark.
 #[derive(Clone, Copy)]

@@ -27,11 +27,12 @@ pub fn step(
     ensures words_after { words.new ≡ step_case_words words.old speeds.old at from n arrivals.now }
     ensures speeds_after { speeds.new ≡ step_case_speeds words.old speeds.old at from n arrivals.now }
 {
-    let e = at + 16 * n;
-    let f = e + 8;
-    let t = words[e];
+    let totals = at + 16 * n;
+    let t = words[totals];
+    // T alone: the whole head is read once, by the states
     let duration = words[0];
-    let came = totals::sum_arrivals(arrivals, n);
+    let came = totals::sum_arrivals(arrivals);
     let left = states::step_states(words, speeds, arrivals, at, from, n, t);
-    totals::add_totals(&mut words[e..f], came, left, duration * vehicles);
+    let time = duration * vehicles;
+    totals::add_totals(&mut words[totals..totals + 8], came, left, time);
 }

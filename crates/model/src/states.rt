@@ -1,13 +1,17 @@
 // All segments of a case, in place and in segment order. Each adds what it passes on to what enters its followers; when a segment's turn
-// comes, all that enter it have had theirs, and its followers still stand as before the step.
+// comes, all that enter it have had theirs, and its followers still stand as before the step. By number, since each reads the words of those
+// that follow it while its own are written.
 ghost use Rattle.std.specs.Prelude.{◌≡◌, length};
 ghost use Rattle.metanet.proofs.InWords.{stepped_words};
 ghost use Rattle.metanet.proofs.Ready.{Ready, Stepped};
 
 use metanet::SegmentState;
-use segment::{entering, state};
+use network_words::kept::Words;
+use segment::entering;
+use segment::site::Site;
 
-// Stores the figures that a step makes; S and m are those of an ALINEA ramp alone.
+// Stores the figures that a step makes; S and m are those of an ALINEA ramp alone. A state's words are lent as a slice, here as in study: as an
+// array of 16 they would come in an Option, with an arm that is never reached.
 #[tactic(auto, unfolding(metanet::proofs::InWords::stepped_words))]
 fn store(w: &mut [u64], r: SegmentState)
     requires { length w.old ≡ 16 }
@@ -39,36 +43,24 @@ pub(crate) fn step_states(
     requires { Ready words.old speeds.old arrivals.now at from n }
     ensures { Stepped words.old speeds.old arrivals.now at from n t words.new speeds.new result }
 {
-    let h = network_words::kept_head(&words[..network_words::NETWORK_WORDS]);
-    let mut acc = entering::none_yet();
+    let net = Words::of(words);
+    let head = net.head();
+    let mut entries = entering::none_yet();
     let mut left = 0;
     for i in 0..n {
         let a = at + 16 * i;
-        let e = a + 16;
-        let b = from + i;
-        let own = i + 1;
-        let v = speeds[b];
+        let v = speeds[from + i];
         let d = u64::from(arrivals[i]);
-        let came = acc[own];
-        let r = state::new_state_in(words, h, a, v, d, i, t, came);
-        let flows = r.flows;
-        let rest = state::pass_on(words, i, flows.outflow);
-        left += flows.outflow - rest;
-        let f = state::following_of(words, i);
-        store(&mut words[a..e], r);
-        speeds[b] = r.speed;
-        let p = f.first as usize;
-        let pe = acc[p];
-        if f.second == 0 {
-            acc[p] = entering::join(pe, rest, flows.outflow, v);
-        } else {
-            let x = entering::first_part(rest, f.share);
-            acc[p] = entering::join(pe, x, flows.outflow, v);
-            let q = f.second as usize;
-            let qe = acc[q];
-            acc[q] = entering::join(qe, rest - x, flows.outflow, v);
-        }
+        let site = Site::of(words, head, i, a, v);
+        let state = site.new_state(t, d, entries[i + 1]);
+        let outflow = state.flows.outflow;
+        let passed = site.passed_on(outflow);
+        let following = site.own.following;
+        left += outflow - passed;
+        store(&mut words[a..a + 16], state);
+        speeds[from + i] = state.speed;
+        entering::pass_on(&mut entries, following, passed, outflow, v);
     }
-    let gone = acc[0];
-    left + gone.passed
+    let none = entries[0];
+    left + none.passed
 }

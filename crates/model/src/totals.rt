@@ -1,17 +1,18 @@
 // A case's totals: steps, arrivals, exits and time.
-ghost use Rattle.std.specs.Prelude.{◌≡◌, ◌+◌, ◌*◌, ◌<◌, ◌≤◌, length, get_or};
+ghost use Rattle.std.specs.Prelude.{◌≡◌, ◌*◌, ◌≤◌, length, get_or};
 ghost use Rattle.laws.specs.Sums.{sum_of};
 ghost use Rattle.metanet.proofs.InWords.{totals_words};
 ghost use Rattle.metanet.proofs.Ready.{TotalsOk};
 
 // The arrivals of a step, summed.
-pub(crate) fn sum_arrivals(arrivals: &[u32], n: usize) -> u64
-    requires { (n ≤ 40) × (length arrivals.now ≡ n) }
-    ensures { (result ≡ sum_of (λ i. get_or arrivals.now i 0) n) × (result ≤ 4294967296 * n) }
+#[tactic(auto, unfolding(laws::specs::Sums::sum_of))]
+pub(crate) fn sum_arrivals(arrivals: &[u32]) -> u64
+    requires { length arrivals.now ≤ 40 }
+    ensures { let n = length arrivals.now in (result ≡ sum_of (λ i. get_or arrivals.now i 0) n) × (result ≤ 4294967296 * n) }
 {
     let mut sum = 0;
-    for i in 0..n {
-        sum += u64::from(arrivals[i]);
+    for d in arrivals {
+        sum += u64::from(*d);
     }
     sum
 }
@@ -23,12 +24,8 @@ pub(crate) fn add_totals(w: &mut [u64], came: u64, left: u64, time: u64)
     requires totals_ok { TotalsOk w.old 0 }
     ensures { w.new ≡ totals_words w.old came left time }
 {
-    let steps = w[0] + 1;
-    let arrivals = w[1] + came;
-    let exits = w[2] + left;
-    let spent = w[3] + time;
-    w[0] = steps;
-    w[1] = arrivals;
-    w[2] = exits;
-    w[3] = spent;
+    w[0] += 1;
+    w[1] += came;
+    w[2] += left;
+    w[3] += time;
 }

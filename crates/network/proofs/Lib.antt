@@ -1,3 +1,5 @@
 pub mod NoneBefore
 pub mod Short
-pub mod Onward
+pub mod Downwards
+pub mod SegmentRows
+pub mod Reading

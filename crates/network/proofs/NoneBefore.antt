@@ -3,15 +3,13 @@ use Prim.Native.Nat.{ℕ, ◌<◌}
 use mathlib.Core.List.{List}
 use mathlib.Core.Path.{◌≡◌, refl}
 use native.Mathlib.Omega.{arith}
-use borrow.Author.Tests.{eq-eqb}
-use Rattle.laws.specs.First.{some_below}
 use Rattle.laws.proofs.First.{row_passed, row_later, first_of-zero, first_of_all}
 use Rattle.laws.proofs.Tests.{or_left}
-use Rattle.format.specs.Network.{chain, record_rows, goes_to, has_before}
-use Rattle.format.specs.File.{head_of, record_start, following_of, segment_on, record_padding, record_number, records_number, origins_number}
+use Rattle.format.specs.Network.{chain, record_rows}
+use Rattle.format.specs.File.{head_of, record_start, segment_on, record_padding, record_number, records_number, origins_number}
 use Rattle.format.proofs.Accepted.{SegmentWithin, FollowingWithin}
-use Rattle.format.proofs.Rows.{segment_within, following_within}
-use Rattle.format.proofs.Before.{before_below}
+use Rattle.format.proofs.File.{on_chain}
+use Rattle.format.proofs.Rows.{segment_within, following_within, on_chain_following}
 use Rattle.format.proofs.Chain.{chain-origin}
 
 module _ (b : List ℕ) (passed : records_number b ≡ 0) where
@@ -24,8 +22,7 @@ module _ (b : List ℕ) (passed : records_number b ≡ 0) where
   followers_in i l = following_within (head_of b) i (segment_on b i).following (row_passed _ _ _ (row_later _ _ _ (first_of-zero (record_number b (head_of b)) _ passed i l)))
 
   chained : (head_of b).version ≡ 1 → (k : ℕ) → k < (head_of b).size → (segment_on b k).following ≡ chain (head_of b).size k
-  unfolding following_of
-  chained v k l = rw (eq-eqb (head_of b).version 1 v) refl
+  chained v k l = on_chain_following (head_of b) k (segment_on b k) (on_chain (head_of b) b k _) v
 
   -- version 1: none is refused
   pub chain_passes : (head_of b).version ≡ 1 → origins_number b ≡ 0

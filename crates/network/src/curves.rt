@@ -18,7 +18,8 @@ pub(crate) fn entry(file: &[u8], at: usize, j: usize) -> u64
 }
 
 // Whether an entry of the curve at place at is above the one before it. The loop has no branch, so that it becomes one over vectors: with a
-// return in it, it takes three times as long.
+// return in it, it takes three times as long. It goes by j: over the entries as arrays of four bytes, each beside the next by zip, the check
+// of a file takes a sixth longer.
 #[tactic(auto, unfolding(format::specs::Network::rising, laws::specs::First::row, laws::specs::First::first, laws::specs::First::first_of))]
 fn rises(file: &[u8], at: usize) -> bool
     requires { at + 804 ≤ length file.now }
@@ -50,7 +51,7 @@ impl File<'_> {
         ensures { refused result ≡ curves_number self.now.bytes.now }
     {
         for k in 0..self.head.curves {
-            check_curve_at(self.bytes, 16 + 804 * (k as usize))?;
+            check_curve_at(self.bytes, crate::curve_start(k as u32) as usize)?;
         }
         Ok(())
     }

@@ -13,7 +13,7 @@ fn has_mark(file: &[u8]) -> bool
     file.starts_with(b"FWN")
 }
 
-// Row 4, of the bytes that are zero.
+// Row 4, of the bytes that are zero: other places than a record's, and as short.
 fn head_padding(file: &[u8]) -> bool
     ensures { result ≡ head_padding file.now }
 {

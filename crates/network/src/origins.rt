@@ -6,10 +6,11 @@ ghost use Rattle.format.specs.declared.Segment.{Segment};
 ghost use Rattle.format.specs.Network.{has_before, origin_number};
 ghost use Rattle.format.proofs.Accepted.{FollowingWithin};
 
+use crate::rows;
 use format::Following;
 use laws::Refusal;
 
-// The segments of a network, counted from 0.
+// The segments of a network, counted from 0, that rows 7 and 27 accept.
 pub trait Segments {
     ghost size: { Self → ℕ };
 
@@ -24,31 +25,24 @@ pub trait Segments {
     fn following(&self, k: u32) -> Following
         requires { k < size self.now }
         ensures { result ≡ (segment self.now k).following };
+
+    // By row 27 each goes on to higher ones.
+    ghost onward: { (n : Self) (k : ℕ) → k < size n → FollowingWithin (size n) k (segment n k).following };
 }
 
-// Whether some segment goes on to segment i. By row 27 it is one below i; it is looked for from i - 1 downwards, since most often the one
-// just before goes on to it.
-#[tactic(auto, using(crate::proofs::Onward::looking))]
+// Whether some segment goes on to segment i. It is one below i, looked for from i - 1 downwards, since most often the one just before goes
+// on to it.
 pub fn has_before<S: Segments>(net: &S, i: u32) -> bool
-    requires onward { (k : ℕ) → k < S.size net.now → FollowingWithin (S.size net.now) k (S.segment net.now k).following }
-    requires i_bound { i < S.size net.now }
+    requires { i < S.size net.now }
     ensures { result ≡ has_before (S.segment net.now) (S.size net.now) i }
 {
-    let number = u64::from(i) + 1;
-    for k in (0..i).rev() {
-        let f = net.following(k);
-        if (f.first == number) | (f.second == number) {
-            return true;
-        }
-    }
-    false
+    (0..i).rev().any(|k| rows::goes_to(net.following(k), i))
 }
 
 // Row 28, of the n segments. The chain, which version 1 means, passes it.
 #[tactic(auto, using(laws::proofs::Refused::row_loop), unfolding(format::specs::Network::origin_number, laws::specs::First::row))]
 pub fn check_origins<S: Segments>(net: &S, n: u32, version: u64) -> Result<(), Refusal>
     requires n_value { n ≡ S.size net.now }
-    requires onward { (k : ℕ) → k < S.size net.now → FollowingWithin (S.size net.now) k (S.segment net.now k).following }
     requires chain_passes { version ≡ 1 → first_of (origin_number (S.segment net.now) n) n ≡ 0 }
     ensures { refused result ≡ first_of (origin_number (S.segment net.now) n) n }
 {
@@ -63,8 +57,7 @@ pub fn check_origins<S: Segments>(net: &S, n: u32, version: u64) -> Result<(), R
 
 #[tactic(auto, unfolding(format::specs::Network::origin_number, laws::specs::First::row))]
 fn check_origin<S: Segments>(net: &S, i: u32) -> Result<(), Refusal>
-    requires onward { (k : ℕ) → k < S.size net.now → FollowingWithin (S.size net.now) k (S.segment net.now k).following }
-    requires i_bound { i < S.size net.now }
+    requires { i < S.size net.now }
     ensures { refused result ≡ origin_number (S.segment net.now) (S.size net.now) i }
 {
     if net.origin(i) == 0 && !has_before(net, i) {

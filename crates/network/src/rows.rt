@@ -3,7 +3,7 @@
 ghost use Rattle.std.specs.Prelude.{◌≡◌, ◌<◌, ◌≤◌, ◌||◌, ◌&&◌, take, ltb, eqb};
 ghost use Rattle.laws.specs.Refusal.{refused};
 ghost use Rattle.laws.specs.First.{any_of, row, outside};
-ghost use Rattle.format.specs.Network.{version_bad, head_bad, chain, segment_tests, share_tests, not_higher, followers_bad, too_fast};
+ghost use Rattle.format.specs.Network.{version_bad, head_bad, chain, segment_tests, share_tests, not_higher, followers_bad, too_fast, goes_to};
 ghost use Rattle.format.proofs.Rows.{following_row};
 
 use format::{Following, Head, Segment};
@@ -45,7 +45,7 @@ pub fn head_bad(h: Head) -> bool
 
 // Row 7, of all fields of segment i but Q and the share.
 #[tactic(auto, unfolding(laws::specs::First::any_of, laws::specs::First::or_from))]
-fn first_ten_bad(h: Head, i: u64, s: Segment) -> bool
+fn other_fields_bad(h: Head, i: u64, s: Segment) -> bool
     ensures { result ≡ any_of (take 10 (segment_tests h i s)) }
 {
     let f = s.following;
@@ -71,13 +71,13 @@ fn most_bad(s: Segment) -> bool
     (s.origin == 1) & arrays::outside(1, s.most, 300000)
 }
 
-// Row 7, of the fields of segment i, counted from 0, but for the share. Branches cost less than one value of all tests: none is taken in an
-// accepted network.
+// Row 7, of the fields of segment i, counted from 0, but for the share. The one branch, on the first ten tests, costs less than one value of
+// all: it is not taken in an accepted network.
 #[tactic(auto, unfolding(laws::specs::First::any_of, laws::specs::First::or_from))]
 pub fn fields_bad(h: Head, i: u64, s: Segment) -> bool
     ensures { result ≡ any_of (segment_tests h i s) }
 {
-    first_ten_bad(h, i, s) || most_bad(s)
+    other_fields_bad(h, i, s) || most_bad(s)
 }
 
 // Row 7, of the share to the first following segment.
@@ -89,18 +89,24 @@ fn share_bad(s: Segment) -> bool
     (1000 < f.share) | ((f.second == 0) & (f.share != 1000))
 }
 
+// Whether a segment of this following goes on to segment i, counted from 0.
+pub fn goes_to(f: Following, i: u32) -> bool
+    ensures { result ≡ goes_to i f }
+{
+    let number = u64::from(i) + 1;
+    (f.first == number) | (f.second == number)
+}
+
 // Whether a following segment, by its number k, is not higher than segment i, counted from 0.
-pub fn not_higher(i: u64, k: u64) -> bool
-    requires { i ≤ 40 }
+pub fn not_higher(i: u32, k: u64) -> bool
     ensures { result ≡ not_higher i k }
 {
-    (0 < k) & (k <= i + 1)
+    (0 < k) & (k <= u64::from(i) + 1)
 }
 
 // Row 27, of what follows segment i, counted from 0.
 #[tactic(auto, unfolding(format::specs::Network::followers_bad, laws::specs::First::any_of, laws::specs::First::or_from))]
-fn followers_bad(h: Head, i: u64, f: Following) -> bool
-    requires { i < 40 }
+fn followers_bad(h: Head, i: u32, f: Following) -> bool
     ensures { result ≡ followers_bad h i f }
 {
     (not_higher(i, f.first) | not_higher(i, f.second))
@@ -111,9 +117,8 @@ fn followers_bad(h: Head, i: u64, f: Following) -> bool
 
 // Rows 7 and 27, of what follows segment i, counted from 0. Neither refuses the chain, which is what version 1 means.
 #[tactic(auto, using(format::proofs::Chain::chain_share, format::proofs::Chain::chain_followers), unfolding(format::proofs::Rows::following_row, laws::specs::First::row))]
-pub fn check_following(h: Head, i: u64, s: Segment) -> Result<(), Refusal>
-    requires i_bound { i < 40 }
-    requires following_value { h.version ≡ 1 → s.following ≡ chain h.size i }
+pub fn check_following(h: Head, i: u32, s: Segment) -> Result<(), Refusal>
+    requires { h.version ≡ 1 → s.following ≡ chain h.size i }
     ensures { refused result ≡ following_row h i s }
 {
     if h.version == 1 {

@@ -1,6 +1,7 @@
 -- Row 6 from the OR of the differences of neighbours, each modulo 2^64: the loop that gathers them, and the tests of the code.
-use Rattle.std.proofs.Common.{◌≡◌, ℕ, zero, suc, ◌+◌, ◌-◌, ◌*◌, ◌%◌, ◌^◌, ◌<◌, ◌≤◌, Bool, true, false, ◌⊎◌, sym, refl, ap, ◌∙◌, inl, inr, ⊎_elim, le_of_suc-le-suc, not-suc-le-zero, eq-or-lt_of_le, add-one, arith, le-ltb}
+use Rattle.std.proofs.Common.{◌≡◌, ℕ, zero, suc, ◌+◌, ◌-◌, ◌*◌, ◌%◌, ◌^◌, ◌<◌, ◌≤◌, Bool, true, false, ◌⊎◌, sym, refl, ap, ◌∙◌, inl, inr, ⊎_elim, le_of_suc-le-suc, not-suc-le-zero, eq-or-lt_of_le, add-one, arith, le-ltb, List, get_or, slice_index, slice_index_or, take, drop}
 use lib.Bits.{bit_or, or_lt}
+use Rattle.std.proofs.lemmas.List.{get_or-drop, get_or-take}
 use Rattle.std.proofs.lemmas.Nat.{le_or_l, le_or_r}
 use Rattle.laws.specs.First.{outside, row, first, first_of}
 use Rattle.laws.proofs.Tests.{inside_high}
@@ -97,7 +98,11 @@ module _ {e : ℕ → ℕ} where
             let none : e j < e (j + 1) → ⊥ = λ up. omega (arith, risen (d.near (omega (arith, s))) 200 (omega arith) j l up) in
             omega arith
 
+-- the entry after entry j, in the list without the first
+pub entry_after : (xs : List ℕ) (j : ℕ) → j < 200 → slice_index_or (take 200 (drop 1 xs)) j 0 ≡ slice_index xs (j + 1)
+entry_after xs j l = get_or-take 200 (drop 1 xs) j 0 l ∙ get_or-drop 1 xs j 0 ∙ ap (λ (p : ℕ). get_or xs p 0) (omega arith)
+
 -- what a proof of the loop over the differences needs, and what a proof of the tests
-pub ruleset difference_loop = (differences_none, differences_more)
+pub ruleset difference_loop = (differences_none, differences_more, entry_after)
 
 pub ruleset difference_tests = (curve_wide, curve_ends_high, curve_passes, curve_starts_out)

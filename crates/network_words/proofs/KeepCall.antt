@@ -1,16 +1,17 @@
 -- What keep writes of a file b: zeros, then the head, the entries and the segments over them, and the four put together.
-use Rattle.std.proofs.Common.{◌≡◌, ℕ, ◌+◌, ◌-◌, ◌*◌, ◌≤◌, List, ◌++◌, length, take, drop, replicate, sym, ap, ◌∙◌, subst, append_assoc, arith, length-append, length-take-le}
+use Rattle.std.proofs.Common.{◌≡◌, ℕ, ◌+◌, ◌-◌, ◌*◌, ◌≤◌, List, ◌++◌, length, take, drop, replicate, sym, ap, ◌∙◌, subst, append_assoc, arith, length-append, length-take, length-drop, length-take-le}
 use Rattle.std.proofs.lemmas.List.{drop-replicate}
+use lib.Seq.{drop-drop}
 use lib.ListN.{length-replicate, replicate-append-replicate}
 use Rattle.laws.specs.Lists.{table, parts, puts}
 use Rattle.laws.specs.BigEndian.{u32_at}
-use Rattle.laws.proofs.Lists.{length-table, parts_ext, table_ext, table_blocks}
+use Rattle.laws.proofs.Lists.{length-table, span, parts_ext, table_ext, table_blocks}
 use Rattle.laws.proofs.Puts.{put_after, puts-after}
 use Rattle.format.specs.declared.Head.{Head}
 use Rattle.format.specs.Network.{network_from, entry_of, segment_of}
 use Rattle.format.specs.File.{file_number, head_of, entry_on, segment_on, network_of}
 use Rattle.format.specs.Words.{head_words, segment_words, kept_words}
-use Rattle.format.proofs.File.{network_within}
+use Rattle.format.proofs.File.{file-accepted, network_within}
 use Rattle.format.proofs.From.{from_entry, from_segment}
 use Rattle.format.proofs.Kept.{length-head-words}
 
@@ -25,7 +26,24 @@ head_few b z = (network_within b z).head.curves_high
 pub head_short : (b : List ℕ) → file_number b ≡ 0 → (head_of b).size ≤ 40
 head_short b z = (network_within b z).head.size_high
 
+-- the words that are lent for the entries
+abbrev lent : List ℕ → Head → List ℕ
+lent out h = take (16 + 201 * h.curves - 16) (drop 16 out)
+
+pub entries_fit : (b out : List ℕ) (h : Head) → file_number b ≡ 0 → h ≡ head_of b → 16 + 4 * length (lent out h) ≤ length b
+entries_fit b out h z is =
+    let whole = (file-accepted b z).head.sized.long in
+    let same : h.curves ≡ (head_of b).curves = ap (λ (g : Head). g.curves) is in
+    omega (arith, whole, same, length-take (16 + 201 * h.curves - 16) (drop 16 out))
+
 pub ruleset keep_lengths = (length_kept, head_few, head_short)
+
+-- n entries were put over the part from word 16 on that was lent
+entries_back : (f : ℕ → ℕ) (out ys : List ℕ) (n : ℕ) → 16 + n ≤ length out → ys ≡ table f (length (take (16 + n - 16) (drop 16 out)))
+    → take 16 out ++ (ys ++ drop (16 + n - 16) (drop 16 out)) ≡ take 16 out ++ (table f n ++ drop (16 + n) out)
+entries_back f out ys n room is =
+    let wide : length (take (16 + n - 16) (drop 16 out)) ≡ n = length-take (16 + n - 16) (drop 16 out) ∙ omega (arith, room, length-drop 16 out) in
+    rw (is, wide, span 16 n, drop-drop)
 
 -- ---- the four writes, one after the other
 
@@ -102,13 +120,16 @@ module _ (b : List ℕ) where
         left : (n : ℕ) → n ≤ 40 → 2560 - (1624 + 16 * n) ≡ 936 - 16 * n
         left n l = omega arith
 
-  -- the same of an accepted file, for a head h that was read from it
-  pub kept_by : file_number b ≡ 0 → (h : Head) → h ≡ head_of b → {cleared out next last : List ℕ} → cleared ≡ zeros → out ≡ head_words h ++ drop 16 cleared
-      → next ≡ take 16 out ++ (table entry_from (201 * h.curves) ++ drop (16 + 201 * h.curves) out) → last ≡ puts 16 segment_from 1624 h.size next
+  -- the same of an accepted file, for a head h that was read from it; ys are the entries, put over the words that were lent for them
+  pub kept_by : file_number b ≡ 0 → (h : Head) → h ≡ head_of b → {cleared out ys last : List ℕ} → cleared ≡ zeros → out ≡ head_words h ++ drop 16 cleared
+      → ys ≡ table entry_from (length (lent out h)) → last ≡ puts 16 segment_from 1624 h.size (take 16 out ++ (ys ++ drop (16 + 201 * h.curves - 16) (drop 16 out)))
       → last ≡ kept_words (network_of b)
-  kept_by accepted h is {out = out} {next} {last} z e =
+  kept_by accepted h is {cleared} {out} {ys} {last} z e f =
+      let curves : h.curves ≡ (head_of b).curves = ap (λ (g : Head). g.curves) is in
+      let whole : length out ≡ 2560 = ap length e ∙ length-append (head_words h) (drop 16 cleared) ∙ simp (length-head-words, z) (omega arith) in
+      let entries = entries_back entry_from out ys (201 * h.curves) (omega (arith, whole, curves, head_few b accepted)) f in
       subst
       (λ (h : Head). out ≡ head_words h ++ drop 16 zeros
-      → next ≡ take 16 out ++ (table entry_from (201 * h.curves) ++ drop (16 + 201 * h.curves) out) → last ≡ puts 16 segment_from 1624 h.size next
+      → (next : List ℕ) → next ≡ take 16 out ++ (table entry_from (201 * h.curves) ++ drop (16 + 201 * h.curves) out) → last ≡ puts 16 segment_from 1624 h.size next
       → last ≡ kept_words (network_of b))
-      (sym is) (all_kept (head_few b accepted) (head_short b accepted) out next last) (e ∙ ap (λ (l : List ℕ). head_words h ++ drop 16 l) z)
+      (sym is) (λ e next. all_kept (head_few b accepted) (head_short b accepted) out next last e) (e ∙ ap (λ (l : List ℕ). head_words h ++ drop 16 l) z) _ entries

@@ -1,4 +1,4 @@
+pub mod Curves
 pub mod Differences
 pub mod KeepCall
-pub mod Parts
 pub mod Rows

@@ -2,24 +2,29 @@
 // Places are those of docs/ARRANGEMENT.md; words that are free are 0.
 #![tactic(auto)]
 
+pub mod kept; // kept.rt: a network's words that are all there, and a network that is judged
 mod judge; // judge.rt: the rows of a kept network
-mod origins; // origins.rt: row 28
 mod keeper; // keeper.rt: the parts of a file's network, written into words
 
-ghost use Rattle.std.specs.Prelude.{◌≡◌, ◌<◌, ◌≤◌, ◌++◌, length, drop, slice_index};
+ghost use Rattle.std.specs.Prelude.{◌≡◌, ◌≤◌, ◌++◌, length, drop, slice_index};
 ghost use Rattle.laws.specs.Refusal.{refused};
-ghost use Rattle.format.specs.Network.{goes_to, has_before};
 ghost use Rattle.format.specs.File.{file_number, network_of};
-ghost use Rattle.format.proofs.Accepted.{SegmentsKept};
 ghost use Rattle.format.specs.Words.{head_in, entry_in, segment_in, kept_number, kept_words};
 
 use crate::judge::Network;
-use crate::origins::Judged;
+use crate::kept::{Judged, Words};
 use format::{Following, Head, Segment};
 use laws::Refusal;
 
 // The words of a kept network.
 pub const NETWORK_WORDS: usize = 2560;
+
+// How many segments the words say; a word past their end reads as 0.
+pub fn kept_size(kept: &[u64]) -> usize
+    ensures { result ≡ slice_index kept.now 1 }
+{
+    word_at(kept, 1) as usize
+}
 
 // Word i of a list; past the end a word reads as 0.
 fn word_at(w: &[u64], i: usize) -> u64
@@ -69,60 +74,6 @@ pub fn kept_segment(kept: &[u64], i: u32) -> Segment
     }
 }
 
-// Whether segment i has an origin, without a test of the length: every row of a run asks for all.
-#[tactic(auto, unfolding(format::specs::Words::segment_in))]
-pub fn kept_origin(kept: &[u64], i: usize) -> u64
-    requires { (i < 40) × (2560 ≤ length kept.now) }
-    ensures { result ≡ (segment_in kept.now i).origin }
-{
-    kept[1624 + 16 * i + 5]
-}
-
-// What follows segment i, counted from 0, without a test of the length either.
-#[tactic(auto, unfolding(format::specs::Words::segment_in))]
-pub fn following_in(kept: &[u64], i: usize) -> Following
-    requires { (2560 ≤ length kept.now) × (i < 40) }
-    ensures { result ≡ (segment_in kept.now i).following }
-{
-    let at = 1624 + 16 * i;
-    Following {
-        first: kept[at + 8],
-        second: kept[at + 9],
-        share: kept[at + 10],
-    }
-}
-
-// Whether some segment goes on to segment i, counted from 0, of a judged network.
-pub fn has_before(kept: &[u64], i: usize) -> bool
-    requires segments_kept { SegmentsKept kept.now (head_in kept.now) }
-    requires i_bound { i < (head_in kept.now).size }
-    ensures { result ≡ has_before (segment_in kept.now) (head_in kept.now).size i }
-{
-    network::origins::has_before(&Judged { words: kept }, i as u32)
-}
-
-// Segment i, counted from 0, where the words are all there: kept_segment without its tests of the length, which cost, since every call
-// judges all segments and a step reads them.
-#[tactic(auto, unfolding(format::specs::Words::segment_in))]
-pub fn segment_in(kept: &[u64], i: usize) -> Segment
-    requires { (2560 ≤ length kept.now) × (i < 40) }
-    ensures { result ≡ segment_in kept.now i }
-{
-    let at = 1624 + 16 * i;
-    let following = following_in(kept, i);
-    Segment {
-        metres: kept[at],
-        lanes: kept[at + 1],
-        curve: kept[at + 2],
-        critical: kept[at + 3],
-        jam: kept[at + 4],
-        origin: kept[at + 5],
-        exit: kept[at + 6],
-        most: kept[at + 7],
-        following,
-    }
-}
-
 // Entry j of curve k of the network kept in words of any content.
 pub fn kept_entry(kept: &[u64], k: u32, j: u32) -> u64
     ensures { result ≡ entry_in kept.now k j }
@@ -138,12 +89,12 @@ pub fn check(kept: &[u64]) -> Result<(), Refusal>
     if kept.len() < NETWORK_WORDS {
         return Err(Refusal::ShortArrays);
     }
-    let head = kept_head(kept);
+    let net = Words { words: kept };
+    let head = net.head();
     judge::check_head(head)?;
-    let net = Network { words: kept, head };
-    net.check_curves()?;
-    net.check_segments()?;
-    net.check_origins()
+    judge::check_curves(&net, head.curves as usize)?;
+    Network { net, head }.check_segments()?;
+    Judged { net }.check_origins()
 }
 
 // Keeps the network of an accepted file in the first 2,560 words; later words stay.
@@ -156,6 +107,6 @@ pub fn keep(file: &[u8], words: &mut [u64])
     let kept = &mut words[..NETWORK_WORDS];
     kept.fill(0);
     keeper::put_head(kept, h);
-    keeper::put_entries(file, 201 * (h.curves as usize), kept);
-    keeper::put_segments(file, h.size as usize, kept);
+    keeper::put_entries(file, &mut kept[16..16 + 201 * (h.curves as usize)]);
+    keeper::put_segments(file, h.size as u32, kept);
 }

@@ -35,18 +35,18 @@ first_in_list ts None f = is_first ts (length ts) (omega arith) (λ k l. f k fal
 first_in_list ts (Some i) f = is_first ts i (omega (arith, f.0)) (λ k l. f.2 k false (omega arith) l) (λ l. f.1 false)
 
 module _ (test : ℕ → Bool) (n : ℕ) where
-  is_below : (i : ℕ) → i ≤ n → ((k : ℕ) → k < i → test k ≡ false) → (i < n → test i ≡ true) → (i ≡ first_held (table test n)) × (i ≤ n)
+  is_below : (i : ℕ) → i ≤ n → ((k : ℕ) → k < i → test k ≡ false) → (i < n → test i ≡ true) → i ≡ first_held (table test n)
   is_below i h fails holds =
       let e = length-table test n in
       let at : (k : ℕ) → k < n → get_or (table test n) k false ≡ test k = λ k l. get_or-table test n k false l in
-      (is_first (table test n) i (omega (arith, e)) (λ k l. at k (omega (arith, l, h)) ∙ fails k l) (λ l. let m : i < n = omega (arith, l, e) in at i m ∙ holds m), h)
+      is_first (table test n) i (omega (arith, e)) (λ k l. at k (omega (arith, l, h)) ∙ fails k l) (λ l. let m : i < n = omega (arith, l, e) in at i m ∙ holds m)
 
-  is_found : (r : Option ℕ) → MatchOption r ((k : ℕ) → 0 ≤ k → k < n → test k ≡ false) (λ i. (0 ≤ i) × (i < n) × (test i ≡ true) × ((k : ℕ) → 0 ≤ k → k < i → test k ≡ false)) → (unwrap_or r n ≡ first_held (table test n)) × (unwrap_or r n ≤ n)
+  is_found : (r : Option ℕ) → MatchOption r ((k : ℕ) → 0 ≤ k → k < n → test k ≡ false) (λ i. (0 ≤ i) × (i < n) × (test i ≡ true) × ((k : ℕ) → 0 ≤ k → k < i → test k ≡ false)) → unwrap_or r n ≡ first_held (table test n)
   is_found None f = is_below n (omega arith) (λ k l. f k (omega arith) l) (λ l. absurd (omega (arith, l)))
   is_found (Some i) f = is_below i (omega (arith, f.1)) (λ k l. f.3 k (omega arith) l) (λ l. f.2)
 
   -- `find` in a range, with a closure that computes the test
-  pub first_in_range : {F : Type 0} {g : Mut F (Bor ℕ × Unit {0}) Bool} (u : Range ℕ) (f : F) (r : Option ℕ) → (xs : List ℕ) × (j : F) × YieldsThen nat_range_steps (record { start = 0; end = n }) xs r u × FoldsTo (λ p x q. CalledAt g p x false q) f xs j × MatchOption r ⊤ (λ x. (h : F) × CalledAt g j x true h) → ((x : ℕ) (b : Bool) (q : F) → CalledAt g f x b q → (q ≡ f) × (b ≡ test x)) → (unwrap_or r n ≡ first_held (table test n)) × (unwrap_or r n ≤ n)
+  pub first_in_range : {F : Type 0} {g : Mut F (Bor ℕ × Unit {0}) Bool} (u : Range ℕ) (f : F) (r : Option ℕ) → (xs : List ℕ) × (j : F) × YieldsThen nat_range_steps (record { start = 0; end = n }) xs r u × FoldsTo (λ p x q. CalledAt g p x false q) f xs j × MatchOption r ⊤ (λ x. (h : F) × CalledAt g j x true h) → ((x : ℕ) (b : Bool) (q : F) → CalledAt g f x b q → (q ≡ f) × (b ≡ test x)) → unwrap_or r n ≡ first_held (table test n)
   first_in_range {g = g} u f r ran computes =
       is_found r (first_from_Range {g = g} _ u f r (λ x. test x ≡ true) (λ x. test x ≡ false) ran (λ x q k. sym (computes x true q k).1) (λ x q k. let c = computes x false q k in (c.0, sym c.1)))
 

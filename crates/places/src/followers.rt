@@ -1,5 +1,5 @@
 // Row 27, of what follows a segment: its rules, and where the follower stands that breaks one.
-ghost use Rattle.std.specs.Prelude.{◌≡◌, cond, ◌≤◌, get_or};
+ghost use Rattle.std.specs.Prelude.{◌≡◌, cond, get_or};
 ghost use Rattle.laws.specs.First.{first_held};
 ghost use Rattle.format.specs.File.{head_of, segment_on};
 ghost use Rattle.format.specs.Place.{follower_rules, follower_fields};
@@ -9,12 +9,10 @@ use network::rows;
 
 // Whether each rule of what follows segment i is broken.
 fn follower_rules(file: &[u8], i: u32) -> [bool; 4]
-    requires { i ≤ 40 }
     ensures { result ≡ follower_rules file.now i }
 {
     let h = network::head_of(file);
     let f = network::segment_of(file, i).following;
-    let i = u64::from(i);
     [
         rows::not_higher(i, f.first) | rows::not_higher(i, f.second),
         (h.size < f.first) | (h.size < f.second),
@@ -25,7 +23,6 @@ fn follower_rules(file: &[u8], i: u32) -> [bool; 4]
 
 // The first of them that is broken.
 pub(crate) fn follower_rule(file: &[u8], i: u32) -> u64
-    requires { i ≤ 40 }
     ensures { result ≡ first_held (follower_rules file.now i) }
 {
     rules::first_held(&follower_rules(file, i))
@@ -40,13 +37,12 @@ fn byte_of(first: bool) -> u8
 
 // The byte of its record that a rule of segment i is about.
 pub(crate) fn follower_field(file: &[u8], i: u32, rule: u64) -> u8
-    requires { i ≤ 40 }
     ensures { result ≡ get_or (follower_fields (head_of file.now) i (segment_on file.now i).following) rule 0 }
 {
     let h = network::head_of(file);
     let f = network::segment_of(file, i).following;
     let fields = [
-        byte_of(rows::not_higher(u64::from(i), f.first)),
+        byte_of(rows::not_higher(i, f.first)),
         byte_of(h.size < f.first),
         17,
         17,

@@ -1,5 +1,5 @@
 // Part, rule and byte of a refusal, by the row that refuses.
-ghost use Rattle.std.specs.Prelude.{◌≡◌, ◌≤◌};
+ghost use Rattle.std.specs.Prelude.{◌≡◌};
 ghost use Rattle.laws.specs.Refusal.{number};
 ghost use Rattle.format.proofs.PlaceParts.{part_of, rule_of, field_of, offset_of};
 
@@ -9,7 +9,7 @@ use laws::Refusal;
 // The curve (row 6), the segment that nothing enters (28) or the record (7, 8, 27).
 #[tactic(auto, unfolding(format::proofs::PlaceParts::part_of, laws::specs::First::row))]
 pub(crate) fn part(file: &[u8], why: Refusal) -> u32
-    ensures { (result ≡ part_of file.now (number why)) × (result ≤ 40) }
+    ensures { result ≡ part_of file.now (number why) }
 {
     match why {
         Refusal::NoHead | Refusal::NoMark | Refusal::Version | Refusal::Head | Refusal::Length => 0,
@@ -22,7 +22,6 @@ pub(crate) fn part(file: &[u8], why: Refusal) -> u32
 // The rule that is broken (rows 4, 7, 27) or the entry of the curve (6).
 #[tactic(auto, unfolding(format::proofs::PlaceParts::rule_of, laws::specs::First::row))]
 pub(crate) fn rule(file: &[u8], why: Refusal, part: u32) -> u64
-    requires { part ≤ 40 }
     ensures { result ≡ rule_of file.now (number why) part }
 {
     match why {
@@ -37,7 +36,6 @@ pub(crate) fn rule(file: &[u8], why: Refusal, part: u32) -> u64
 // Where in its record the field of a rule stands (rows 7, 27, 28); row 8 is of the record's first field.
 #[tactic(auto, unfolding(format::proofs::PlaceParts::field_of, laws::specs::First::row))]
 fn field(file: &[u8], why: Refusal, part: u32, rule: u64) -> u8
-    requires { part ≤ 40 }
     ensures { result ≡ field_of file.now (number why) part rule }
 {
     match why {
@@ -51,7 +49,6 @@ fn field(file: &[u8], why: Refusal, part: u32, rule: u64) -> u8
 // The byte: where the file ends (rows 1 and 5), of the head (2 to 4), of a curve (6), of a record (the others).
 #[tactic(auto, unfolding(format::proofs::PlaceParts::offset_of, format::proofs::PlaceParts::head_offset, laws::specs::First::row))]
 pub(crate) fn offset(file: &[u8], why: Refusal, part: u32, rule: u64) -> u64
-    requires { part ≤ 40 }
     ensures { result ≡ offset_of file.now (number why) part rule }
 {
     match why {

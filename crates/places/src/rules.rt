@@ -1,5 +1,6 @@
 // The rules of rows 2, 4 and 7, one by one, in the order of their definitions, and the first that is broken. Crate network has the same
-// tests joined, for speed, and says only whether one is broken.
+// tests joined, for speed, and says only whether one is broken. Rules and the bytes that they are about are two lists, as their definitions
+// are: a rule's number, which C is told and by which its byte is looked up, is its place in both.
 ghost use Rattle.std.specs.Prelude.{◌≡◌, get_or};
 ghost use Rattle.laws.specs.First.{first_held};
 ghost use Rattle.format.specs.Placed.{mark_rules};
@@ -19,10 +20,11 @@ pub(crate) fn first_held(tests: &[bool]) -> u64
 pub(crate) fn mark_rule(file: &[u8]) -> u64
     ensures { result ≡ first_held (mark_rules file.now) }
 {
+    let mark = b"FWN";
     let rules = [
-        number::byte_at(file, 0) != 70,
-        number::byte_at(file, 1) != 87,
-        number::byte_at(file, 2) != 78,
+        number::byte_at(file, 0) != u64::from(mark[0]),
+        number::byte_at(file, 1) != u64::from(mark[1]),
+        number::byte_at(file, 2) != u64::from(mark[2]),
     ];
     first_held(&rules)
 }

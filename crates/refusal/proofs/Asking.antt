@@ -5,47 +5,51 @@ use mathlib.Core.Bool.{true, false, ◌||◌, not}
 use mathlib.Core.List.{List}
 use native.Mathlib.Omega.{arith}
 use lib.Dec.{ltb, eqb}
-use lib.ListN.{length, get_or}
+use lib.ListN.{length, length-take, get_or}
 use lib.Ieee.{Float}
 use borrow.Author.Tests.{ltb-false, not-false}
 use Rattle.laws.specs.First.{outside, row}
-use Rattle.laws.proofs.First.{row_skipped, row_passed, row_later}
+use Rattle.laws.proofs.First.{row_passed, row_later, first_zero_left}
 use Rattle.laws.proofs.Tests.{inside_low, inside_high}
 use Rattle.format.specs.Network.{network_from}
+use Rattle.format.specs.Words.{head_in}
+use Rattle.format.proofs.Accepted.{SegmentsKept}
+use Rattle.format.proofs.Keeping.{segments_kept}
+use Rattle.metanet.specs.Words.{net_of}
 use Rattle.book.specs.Arrangement.{network_at, size_at, filled_at}
 use Rattle.book.specs.Sound.{sound}
 use Rattle.book.specs.Calls.{question}
-use Rattle.book.specs.Question.{question_number, segment_missing, CaseQuestion, of_case, segment, drain}
-use Rattle.book.specs.Refusal.{refusal, question_refusal}
+use Rattle.book.specs.Question.{question_number, CaseQuestion, of_case, segment, drain}
 use Rattle.book.specs.Perform.{lent, refusal_at}
 use Rattle.book.proofs.Laid.{Laid}
 use Rattle.book.proofs.Network.{size_word}
-use Rattle.book.proofs.Performing.{judged, accepted-sound}
+use Rattle.book.proofs.Performing.{accepted-sound}
 use Rattle.book.proofs.Sounds.{laid, case_sound}
 use Rattle.refusal.specs.Ready.{Reportable}
+use Rattle.refusal.proofs.Rows.{in_order}
+use Rattle.refusal.proofs.Table.{question_rows, drain_rows, table_rows}
 
 module _ (words : List ℕ) (speeds : List Float) (k : ℕ) where
   module _ (q : CaseQuestion) where
     abbrev asked : ℕ
     asked = refusal_at (question (of_case k q)) (lent words speeds)
 
-    -- 21 and 23, then its own rows
-    rows : sound words speeds ≡ true → asked ≡ row (ltb 6 k) 21 (row (not (eqb k 0 || filled_at words k)) 23 (question_number (network_at words) q))
-    unfolding refusal question_refusal
-    rows s = judged (question (of_case k q)) words speeds refl s
-
     module _ (z : asked ≡ 0) where
       fine : sound words speeds ≡ true
       fine = accepted-sound (question (of_case k q)) words speeds refl z
 
+      -- 21 and 23, then its own rows
+      later : row (ltb 6 k) 21 (row (not (eqb k 0 || filled_at words k)) 23 (question_number (network_at words) q)) ≡ 0
+      later = row_later _ _ _ (sym (question_rows words speeds k q) ∙ z)
+
       case_there : (not (eqb k 0 || filled_at words k)) ≡ false
-      case_there = row_passed _ _ _ (row_later _ _ _ (sym (rows fine) ∙ z))
+      case_there = row_passed _ _ _ (row_later _ _ _ later)
 
       high : ltb 6 k ≡ false
-      high = row_passed _ _ _ (sym (rows fine) ∙ z)
+      high = row_passed _ _ _ later
 
       own : question_number (network_at words) q ≡ 0
-      own = row_later _ _ _ (row_later _ _ _ (sym (rows fine) ∙ z))
+      own = row_later _ _ _ (row_later _ _ _ later)
 
       pub reportable : Reportable words speeds (get_or words 1 0) k
       reportable =
@@ -71,11 +75,15 @@ module _ (words : List ℕ) (speeds : List Float) (k : ℕ) where
       pub segment_high : i ≤ get_or words 1 0
       segment_high = omega (arith, size_word words, inside_high 1 i (size_at words) inside)
 
+      -- what the row of its ramp rests on
+      pub segment_asked : (asked (segment i) ≡ 0) × (2560 ≤ length words) × (1 ≤ i) × (i ≤ size_at words)
+      segment_asked = (z, omega (arith, question_long (segment i) z), segment_low, omega (arith, size_word words, segment_high))
+
+      pub network_kept : SegmentsKept (net_of words) (head_in (net_of words))
+      network_kept = segments_kept _ (omega (arith, length-take {A = ℕ} 2560 words, question_long (segment i) z)) (laid words speeds (fine (segment i) z)).net
+
     -- the drain of its queue has all the rows of the segment's report
     pub drain-taken : asked (drain i) ≡ 0 → asked (segment i) ≡ 0
-    unfolding question_number
-    drain-taken z =
-        rows (segment i) (fine (drain i) z)
-        ∙ row_skipped _ _ _ (high (drain i) z)
-        ∙ row_skipped _ _ _ (case_there (drain i) z)
-        ∙ row_skipped _ _ _ (row_passed (segment_missing (network_at words) i) _ _ (own (drain i) z))
+    drain-taken z = first_zero_left _ _ (sym (drain_rows words speeds k i) ∙ z)
+
+pub ruleset drain_asked = (in_order, segment_asked, network_kept, table_rows)

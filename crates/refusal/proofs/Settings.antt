@@ -8,20 +8,18 @@ use lib.Dec.{eqb}
 use lib.IntN.{ℤ}
 use lib.ListN.{length}
 use lib.Ieee.{Float}
-use Rattle.laws.specs.First.{outside, row}
+use Rattle.laws.specs.First.{outside}
 use Rattle.laws.proofs.First.{row_passed, row_later}
 use Rattle.laws.proofs.Tests.{or_right, inside_low, inside_high}
-use Rattle.format.specs.Network.{network_from, segment_of}
 use Rattle.metanet.specs.declared.Setting.{Setting}
-use Rattle.metanet.specs.Step.{ramp_at}
-use Rattle.book.specs.Arrangement.{network_at, size_at}
+use Rattle.book.specs.Arrangement.{size_at}
 use Rattle.book.specs.Sound.{sound}
-use Rattle.metanet.specs.Change.{compliance_bad, sign_refused, setting_refused}
-use Rattle.book.specs.Refusal.{refusal, item_number}
+use Rattle.metanet.specs.Change.{compliance_bad}
 use Rattle.book.specs.Perform.{refusal_at, lent}
 use Rattle.book.proofs.Judging.{size_high}
 use Rattle.book.proofs.Sounds.{laid}
-use Rattle.book.proofs.Performing.{judged, accepted-sound}
+use Rattle.book.proofs.Performing.{accepted-sound}
+use Rattle.refusal.proofs.Table.{sign_rows, meter_rows}
 use Rattle.book.specs.Calls.{item}
 use Rattle.metanet.specs.Line.{signed, metered}
 
@@ -51,19 +49,6 @@ module _ (words : List ℕ) (speeds : List Float) (i : ℕ) where
           room = omega (arith, low, high, l.room);
         }
 
-    -- ---- the rows of the table
-
-    sign_judged : (limit : ℕ) (z : ℤ)
-        → refusal_at (item (signed i limit z)) (lent words speeds) ≡ row (outside 1 i (size_at words)) 17 (row (sign_refused limit z) 18 0)
-    unfolding refusal item_number network_from
-    sign_judged limit z = judged (item (signed i limit z)) words speeds refl s
-
-    meter_judged : (m : Setting)
-        → refusal_at (item (metered i m)) (lent words speeds)
-        ≡ row (outside 1 i (size_at words)) 17 (row (not (ramp_at (network_at words) (i - 1))) 19 (row (setting_refused (segment_of (network_at words) (i - 1)).most m) 20 0))
-    unfolding refusal item_number network_from
-    meter_judged m = judged (item (metered i m)) words speeds refl s
-
   -- ---- what acceptance says
 
   module _ (limit : ℕ) (z : ℤ) (e : refusal_at (item (signed i limit z)) (lent words speeds) ≡ 0) where
@@ -71,12 +56,11 @@ module _ (words : List ℕ) (speeds : List Float) (i : ℕ) where
     sign_sound = accepted-sound (item (signed i limit z)) words speeds refl e
 
     pub sign_within : StateWithin words i
-    sign_within = state_within sign_sound (row_passed _ _ _ (sym (sign_judged sign_sound limit z) ∙ e))
+    sign_within = state_within sign_sound (row_passed _ _ _ (row_later _ _ _ (sym (sign_rows words speeds i limit z) ∙ e)))
 
     pub sign_compliance : compliance_bad z ≡ false
-    sign_compliance = or_right (not (eqb limit 0) && outside 20 limit 200) (compliance_bad z) (row_passed _ _ _ (row_later _ _ _ (sym (sign_judged sign_sound limit z) ∙ e)))
+    sign_compliance = or_right (not (eqb limit 0) && outside 20 limit 200) (compliance_bad z) (row_passed _ _ _ (row_later _ _ _ (row_later _ _ _ (sym (sign_rows words speeds i limit z) ∙ e))))
 
   pub meter_within : (m : Setting) → refusal_at (item (metered i m)) (lent words speeds) ≡ 0 → StateWithin words i
   meter_within m e =
-      let s = accepted-sound (item (metered i m)) words speeds refl e in
-      state_within s (row_passed _ _ _ (sym (meter_judged s m) ∙ e))
+      state_within (accepted-sound (item (metered i m)) words speeds refl e) (row_passed _ _ _ (row_later _ _ _ (sym (meter_rows words speeds i m) ∙ e)))

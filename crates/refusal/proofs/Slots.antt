@@ -5,19 +5,20 @@ use mathlib.Core.Bool.{true, false}
 use mathlib.Core.List.{List}
 use lib.ListN.{get_or, set}
 use lib.Ieee.{Float}
-use Rattle.laws.proofs.First.{row_passed}
+use Rattle.laws.proofs.First.{row_passed, row_later}
 use Rattle.laws.proofs.Tests.{inside_high}
 use Rattle.book.specs.Arrangement.{slots, size_at}
 use Rattle.book.specs.Sound.{sound}
 use Rattle.book.specs.Calls.{hold, recall, drop_slot}
-use Rattle.book.specs.Refusal.{refusal, slot_refusal}
+use Rattle.book.specs.Refusal.{refusal}
 use Rattle.book.specs.Perform.{Arrays, refusal_at, copied_words, copied_speeds, answer_of, lent, Performs, stored}
 use Rattle.book.proofs.Laid.{Laid}
 use Rattle.book.proofs.Network.{size_word}
 use Rattle.book.proofs.Sounds.{laid}
-use Rattle.book.proofs.Performing.{judged, accepts, accepted-sound}
+use Rattle.book.proofs.Performing.{accepts, accepted-sound}
 use Rattle.book.specs.Question.{accepted}
 use Rattle.laws.specs.First.{outside}
+use Rattle.refusal.proofs.Table.{hold_rows, recall_rows}
 
 module _ (words : List ℕ) (speeds : List Float) (k : ℕ) where
   abbrev a : Arrays
@@ -39,12 +40,10 @@ module _ (words : List ℕ) (speeds : List Float) (k : ℕ) where
   slot_at s there = record { laid = subst (Laid words speeds) (size_word words) (laid words speeds s); high = inside_high 1 k 6 there }
 
   pub hold-slot : refusal_at (hold k) a ≡ 0 → SlotAt
-  unfolding refusal
-  hold-slot z = let s = accepted-sound (hold k) words speeds refl z in slot_at s (row_passed (outside 1 k slots) _ _ (sym (judged (hold k) words speeds refl s) ∙ z))
+  hold-slot z = slot_at (accepted-sound (hold k) words speeds refl z) (row_passed _ _ _ (row_later _ _ _ (sym (hold_rows words speeds k) ∙ z)))
 
   pub recall-slot : refusal_at (recall k) a ≡ 0 → SlotAt
-  unfolding refusal slot_refusal
-  recall-slot z = let s = accepted-sound (recall k) words speeds refl z in slot_at s (row_passed (outside 1 k slots) _ _ (sym (judged (recall k) words speeds refl s) ∙ z))
+  recall-slot z = slot_at (accepted-sound (recall k) words speeds refl z) (row_passed _ _ _ (row_later _ _ _ (sym (recall_rows words speeds k) ∙ z)))
 
   -- ---- what an accepted call leaves
 

@@ -22,7 +22,9 @@ use Rattle.book.specs.Calls.{start}
 use Rattle.metanet.specs.Start.{start_segment_number, start_number}
 use Rattle.book.specs.Refusal.{refusal}
 use Rattle.book.specs.Perform.{lent, refusal_at}
+use Rattle.laws.proofs.Refused.{row_loop}
 use Rattle.refusal.specs.Ready.{start_number_on, Listed}
+use Rattle.refusal.proofs.Rows.{in_order}
 
 -- the lists are not all as long as the network
 abbrev pub uneven : List ℕ → List ℕ → List ℕ → List ℕ → Bool
@@ -102,3 +104,6 @@ module _ (words : List ℕ) (lentSpeeds : List Float) (b mvs speeds queues : Lis
 
     pub start_listed : Listed b mvs speeds queues
     start_listed = lists_even b start-file mvs speeds queues (row_passed _ _ _ (row_later _ _ _ later))
+
+-- the call's rows, asked in their order
+pub ruleset start_check = (in_order, row_loop, size_high, start_rows, listed_row)

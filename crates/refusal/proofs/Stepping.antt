@@ -10,7 +10,7 @@ use lib.ListN.{length, get_or}
 use lib.Ieee.{Float}
 use borrow.Author.Tests.{leb-false, eq-eqb}
 use Rattle.laws.specs.First.{row, first, first_of}
-use Rattle.laws.proofs.First.{row_applies, row_skipped, row_passed, first_zero_left, first_zero_right}
+use Rattle.laws.proofs.First.{row_applies, row_skipped, row_passed, first_zero_left, first_zero_right, one_more, all_same}
 use Rattle.format.specs.Network.{entry_of, segment_of}
 use Rattle.format.specs.Words.{head_in, entry_in, segment_in}
 use Rattle.metanet.specs.Words.{net_of, case_in}
@@ -30,19 +30,8 @@ use Rattle.book.proofs.Rows.{RowReady, live_number, live_word, row_sound, row_un
 use Rattle.book.proofs.Network.{size_word}
 use Rattle.book.specs.Calls.{item}
 use Rattle.metanet.specs.Line.{stepped}
-use Rattle.refusal.specs.Ready.{late_number}
-
--- S, m and the totals refuse by 12 alone
-one_more : (m : ℕ) (b : Bool) → first m 12 ≡ 12 → first (first m (row b 12 0)) 12 ≡ 12
-unfolding first row
-one_more zero true e = refl
-one_more zero false e = refl
-one_more (suc m) b e = e
-
-all_twelve : (bad : ℕ → Bool) (n : ℕ) → first (first_of (λ i. row (bad i) 12 0) n) 12 ≡ 12
-unfolding first first_of
-all_twelve bad zero = refl
-all_twelve bad (suc n) = one_more _ (bad n) (all_twelve bad n)
+use Rattle.refusal.specs.Ready.{next_step_number}
+use Rattle.refusal.proofs.Rows.{in_order, asked}
 
 -- the two rows of 16
 rows_last : (t : Bool) (a : ℕ) (u v : Bool) → first (row t 13 (first a (row u 16 0))) (row v 16 0) ≡ row t 13 (first a (row u 16 (row v 16 0)))
@@ -112,13 +101,13 @@ module _ (words : List ℕ) (speeds : List Float) (ds : List ℕ) where
 module _ (words : List ℕ) (speeds : List Float) (ds : List ℕ) where
   -- 12 and 13, then 15 and 16
   pub step_rows : refusal_at (item (stepped ds)) (lent words speeds)
-      ≡ row (not (sound words speeds)) 12 (row (not (eqb (length ds) (get_or words 1 0))) 13 (late_number words ds (get_or words 1 0)))
-  unfolding step_number late_number
+      ≡ row (not (sound words speeds)) 12 (row (not (eqb (length ds) (get_or words 1 0))) 13 (next_step_number words ds (get_or words 1 0)))
+  unfolding step_number next_step_number
   step_rows =
       go (sound words speeds) refl
-      ∙ ap (λ (n : ℕ). row (not (sound words speeds)) 12 (row (not (eqb (length ds) n)) 13 (late_number words ds n))) (size_word words)
+      ∙ ap (λ (n : ℕ). row (not (sound words speeds)) 12 (row (not (eqb (length ds) n)) 13 (next_step_number words ds n))) (size_word words)
     where
-      go : (b : Bool) → sound words speeds ≡ b → refusal_at (item (stepped ds)) (lent words speeds) ≡ row (not b) 12 (row (not (eqb (length ds) (size_at words))) 13 (late_number words ds (size_at words)))
+      go : (b : Bool) → sound words speeds ≡ b → refusal_at (item (stepped ds)) (lent words speeds) ≡ row (not b) 12 (row (not (eqb (length ds) (size_at words))) 13 (next_step_number words ds (size_at words)))
       go true s =
           number_is words speeds ds s
           ∙ rows_last (not (eqb (length ds) (size_at words))) (first_of (arrival_number_in (net_of words) ds) (size_at words)) (leb 20000 (steps_word words speeds ds)) (leb 1000000 (run_count_at words))
@@ -126,17 +115,21 @@ module _ (words : List ℕ) (speeds : List Float) (ds : List ℕ) where
       go false s = sym (row_applies _ _ _ refl ∙ unsound (item (stepped ds)) words speeds refl s)
 
   -- a row of a run: 12 by S, m and the totals alone, then 15 and 16
-  pub row_rows : {n : ℕ} → RowReady words speeds n → length ds ≡ n → refusal_at (item (stepped ds)) (lent words speeds) ≡ first (live_number words n) (late_number words ds n)
+  pub row_rows : {n : ℕ} → RowReady words speeds n → length ds ≡ n → refusal_at (item (stepped ds)) (lent words speeds) ≡ first (live_number words n) (next_step_number words ds n)
   unfolding first
-  row_rows {n} r listed = step_rows ∙ go (live_number words n) refl (one_more _ _ (all_twelve _ n))
+  row_rows {n} r listed = step_rows ∙ go (live_number words n) refl (one_more 12 _ _ (all_same 12 _ n))
     where
       size : n ≡ get_or words 1 0
       size = r.laid.size ∙ size_word words
 
       go : (m : ℕ) → live_number words n ≡ m → first m 12 ≡ 12
-          → row (not (sound words speeds)) 12 (row (not (eqb (length ds) (get_or words 1 0))) 13 (late_number words ds (get_or words 1 0))) ≡ first m (late_number words ds n)
+          → row (not (sound words speeds)) 12 (row (not (eqb (length ds) (get_or words 1 0))) 13 (next_step_number words ds (get_or words 1 0))) ≡ first m (next_step_number words ds n)
       go zero e t =
           row_skipped _ _ _ (ap not (row_sound r e))
           ∙ row_skipped _ _ _ (ap not (eq-eqb _ _ (listed ∙ size)))
-          ∙ ap (late_number words ds) (sym size)
+          ∙ ap (next_step_number words ds) (sym size)
       go (suc m) e t = row_applies _ _ _ (ap not (row_unsound r (λ z. omega (arith, e, z)))) ∙ sym t
+
+pub ruleset step_asked = (asked, step_rows)
+
+pub ruleset row_asked = (in_order, row_rows)

@@ -16,9 +16,9 @@ pub record Reportable (words : List ℕ) (speeds : List Float) (n k : ℕ) : Typ
   pub high : k ≤ slots
   pub sound : case_number_at words speeds k ≡ 0
 
--- 15 and 16, of a step on a study of n segments with as many arrivals
-unfoldable pub late_number : List ℕ → List ℕ → ℕ → ℕ
-late_number words ds n =
+-- 15 and 16, of the next step of the live case, of n segments, with as many arrivals
+unfoldable pub next_step_number : List ℕ → List ℕ → ℕ → ℕ
+next_step_number words ds n =
     first (first_of (arrival_number_in (net_of words) ds) n)
     (row (leb steps_most (get_or words (2576 + 16 * n) 0)) 16
     (row (leb runs_most (run_count_at words)) 16 0))

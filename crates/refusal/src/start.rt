@@ -7,11 +7,12 @@ ghost use Rattle.book.specs.Perform.{lent, refusal_at};
 ghost use Rattle.refusal.specs.Ready.{start_number_on, Listed};
 
 use crate::refuse_if;
+use case_words::Cases;
 use laws::Refusal;
 
 // 14, of segment i, counted from 0: its mv, speed and queue.
-// No struct holds the file and its three lists: only check and this function take them, and it would add lines.
-#[tactic(auto, using(crate::proofs::Starting::segment_on_lem), unfolding(metanet::specs::Start::start_segment_number, laws::specs::First::any_of, laws::specs::First::or_from))]
+// The file and its lists are one struct, Told of crate begin, once nothing refuses them; here that is not known yet.
+#[tactic(auto, using(crate::proofs::Starting::segment_on_lem), unfolding(metanet::specs::Start::start_segment_number, laws::specs::First::any_of))]
 fn check_segment(
     file: &[u8],
     mvs: &[u32],
@@ -36,7 +37,7 @@ fn check_segment(
 }
 
 // The file's rows, then 11, 13 and 14.
-#[tactic(auto, using(crate::proofs::Rows::in_order, laws::proofs::Refused::row_loop, crate::proofs::Starting::start_rows, crate::proofs::Starting::listed_row))]
+#[tactic(auto, using(crate::proofs::Starting::start_check))]
 pub fn check(
     words: &[u64],
     speeds: &[f64],
@@ -48,16 +49,16 @@ pub fn check(
     ensures { refused result ≡ refusal_at (start file.now mvs.now initial.now queues.now) (lent words.now speeds.now) }
 {
     network::check(file)?;
-    let h = network::head_of(file);
-    let n = h.size as usize;
+    let n = network::head_of(file).size as usize;
     refuse_if(
-        (words.len() < case_words::FIRST_CASE + 7 * (16 * n + 8)) | (speeds.len() < 7 * n),
+        sound::too_short(words, speeds, Cases { n }),
         Refusal::ShortArrays,
     )?;
     refuse_if(
         (mvs.len() != n) | (initial.len() != n) | (queues.len() != n),
         Refusal::ListLength,
     )?;
+    // by number: the file is read by it too, and zips of three lists would nest their items
     for i in 0..n {
         check_segment(file, mvs, initial, queues, i)?;
     }

@@ -1,10 +1,7 @@
 -- Which row refuses a question about a case, and that the figures read in the words are those of the case.
 use Rattle.std.proofs.Common.{◌≡◌, ℕ, ◌+◌, ◌-◌, ◌*◌, Option, ◌<◌, ◌≤◌, not, T, List, [], ◌∷◌, length, get_or, drop, Ok, sym, refl, ap, ◌∙◌, le_trans, le_of_eq, arith, lit<, get_or-drop}
 use lib.Ieee.{Float, nan, inf, fin, is_nan, lt}
-use Rattle.laws.specs.declared.Refusal.{Refusal}
-use Rattle.laws.specs.Refusal.{number}
 use Rattle.laws.specs.Sums.{sum_of}
-use Rattle.laws.proofs.Refused.{number_some}
 use Rattle.laws.proofs.Reals.{Truncates}
 use Rattle.laws.proofs.Sums.{sum_ext}
 use Rattle.format.specs.declared.Head.{Head}
@@ -25,14 +22,14 @@ use Rattle.metanet.specs.Report.{case_figures, segment_figures}
 use Rattle.metanet.specs.Sound.{mv_most}
 use Rattle.metanet.specs.Drain.{DrainTime, drain_time, time_figures, drain_figures}
 use Rattle.case_words.specs.Sums.{figure_at, Summable}
-use Rattle.reports.specs.Figures.{figures_at, state_figures, Readable}
+use Rattle.reports.specs.Figures.{figures_at, state_figures, figures_there, Showable}
 use Rattle.refusal.specs.Ready.{Reportable}
 use Rattle.book.proofs.Judging.{placed, size_high, case_judged}
 use Rattle.book.proofs.Network.{head_kept, segment_kept}
-use Rattle.book.specs.Calls.{Call, question}
+use Rattle.book.specs.Calls.{question}
 use Rattle.book.specs.Perform.{lent, refusal_at, stored, answer_of, Performs}
-use Rattle.book.specs.Question.{CaseQuestion, totals, segment, drain, of_case, case_says, segment_says, time_of, drain_says, figures_for, figures_asked, figures, refused, Answer}
-use Rattle.book.proofs.Performing.{refuses, accepts}
+use Rattle.book.specs.Question.{CaseQuestion, totals, segment, drain, of_case, case_says, segment_says, time_of, drain_says, figures_for, figures_asked, figures, Answer}
+use Rattle.book.proofs.Performing.{refused_call, accepts}
 use Rattle.refusal.proofs.Asking.{reportable, segment_low, segment_high, drain-taken}
 
 -- ---- the figures
@@ -72,18 +69,15 @@ module _ {words : List ℕ} {speeds : List Float} {n k : ℕ} (p : Reportable wo
   state_of_lem : (i : ℕ) → i < n → StateOk (segment_in (net_of words) i) (entry_in (net_of words) (segment_in (net_of words) i).curve 0) (state_at words speeds at from i)
   state_of_lem = case_state place zeroed
 
-  pub readable : (i : ℕ) → i < n → Readable words speeds n k i
-  unfolding state_in
-  readable i l =
+  -- what stands where
+  pub case_placed : (n ≤ 40) × (k ≤ 6) × (2560 ≤ length words) × (at + 16 * n + 8 ≤ length words) × (from + n ≤ length speeds)
+  case_placed = (size_high p.laid, p.high, omega (arith, p.laid.room), place.room, place.speed_room)
+
+  -- a speed can be shown
+  pub showable : (i : ℕ) {r : SegmentState} → r ≡ state_at words speeds at from i → i < n → Showable r.speed
+  showable i e l =
       let t = truncating_speed (segment_ok p.laid.net i (omega (arith, p.laid.size))) (state_of_lem i l).flowing.speed in
-      record {
-        many = size_high p.laid;
-        inside = l;
-        network = omega (arith, p.laid.room);
-        state = omega (arith, place.room);
-        speed = omega (arith, place.speed_room);
-        shown = record { above = t.above; under = t.under; number = is_a_number _ t };
-      }
+      rw e (record { above = t.above; under = t.under; number = is_a_number _ t })
 
   pub counts_summable : Summable words at 0 n
   unfolding state_in
@@ -150,57 +144,38 @@ module _ {words : List ℕ} {speeds : List Float} {n k : ℕ} (p : Reportable wo
     unfolding state_figures
     queue_high = (state_of_lem i l).queue
 
--- ---- a question that is refused
+-- what its figures need
+pub ruleset case_read = (case_placed, counts_summable, queues_summable)
 
-pub refused_by : (c : Call) (words : List ℕ) (speeds : List Float) (why : Refusal) → number why ≡ refusal_at c (lent words speeds)
-    → Performs c words speeds (refused (number why)) words speeds
-refused_by c words speeds why is = refuses c words speeds is (number_some why)
+-- ---- a question about case k that is accepted
 
 module _ (words : List ℕ) (speeds : List Float) (k : ℕ) where
-  -- ---- a question about case k that is accepted
-
   module _ (q : CaseQuestion) (is : 0 ≡ refusal_at (question (of_case k q)) (lent words speeds)) where
-    case_taken : Reportable words speeds (get_or words 1 0) k
+    pub case_taken : Reportable words speeds (get_or words 1 0) k
     case_taken = reportable words speeds k q (sym is)
-
-    pub words_long : 2576 ≤ length words
-    words_long = omega (arith, case_taken.laid.room)
 
     answers_it : {answer : Answer} → answer ≡ figures (figures_for q (network_at words) (case_at words speeds k)) → Performs (question (of_case k q)) words speeds answer words speeds
     unfolding answer_of figures_asked stored
     answers_it said = accepts (question (of_case k q)) words speeds (sym is) said refl refl
 
   -- the report of the case
-  module _ (is : 0 ≡ refusal_at (question (of_case k totals)) (lent words speeds)) where
-    pub case_high : k ≤ 6
-    case_high = (case_taken totals is).high
-
-    pub case_counts : Summable words (case_word (get_or words 1 0) k) 0 (get_or words 1 0)
-    case_counts = counts_summable (case_taken totals is)
-
-    pub case_queues : Summable words (case_word (get_or words 1 0) k) 1 (get_or words 1 0)
-    case_queues = queues_summable (case_taken totals is)
-
-    pub case_answered : (f : CaseFigures) → f ≡ figures_at words (case_word (get_or words 1 0) k) (get_or words 1 0)
-        → Performs (question (of_case k totals)) words speeds (case_says (Ok f)) words speeds
-    unfolding figures_for
-    case_answered f read =
-        answers_it totals is (ap (λ (g : CaseFigures). case_says (Ok g)) read ∙ case_shown (case_taken totals is))
+  pub case_answered : 0 ≡ refusal_at (question (of_case k totals)) (lent words speeds) → (f : CaseFigures) → f ≡ figures_at words (case_word (get_or words 1 0) k) (get_or words 1 0)
+      → Performs (question (of_case k totals)) words speeds (case_says (Ok f)) words speeds
+  unfolding figures_for
+  case_answered is f read =
+      answers_it totals is (ap (λ (g : CaseFigures). case_says (Ok g)) read ∙ case_shown (case_taken totals is))
 
   module _ (i : ℕ) where
     abbrev read_there : SegmentFigures
-    read_there = state_figures (segment_in (net_of words) (i - 1)) (state_at words speeds (case_word (get_or words 1 0) k) (case_speed (get_or words 1 0) k) (i - 1))
+    read_there = figures_there words speeds k (i - 1)
 
     -- the report of segment i
     module _ (is : 0 ≡ refusal_at (question (of_case k (segment i))) (lent words speeds)) where
+      pub segment_there : (1 ≤ i) × (i ≤ get_or words 1 0)
+      segment_there = (segment_low words speeds k i (sym is), segment_high words speeds k i (sym is))
+
       segment_inside : i - 1 < get_or words 1 0
-      segment_inside = omega (arith, segment_low words speeds k i (sym is), segment_high words speeds k i (sym is))
-
-      pub segment_above : 1 ≤ i
-      segment_above = segment_low words speeds k i (sym is)
-
-      pub segment_readable : Readable words speeds (get_or words 1 0) k (i - 1)
-      segment_readable = readable (case_taken (segment i) is) (i - 1) segment_inside
+      segment_inside = omega (arith, segment_there)
 
       pub segment_answered : (f : SegmentFigures) → f ≡ read_there → Performs (question (of_case k (segment i))) words speeds (segment_says (Ok f)) words speeds
       unfolding figures_for
@@ -212,11 +187,8 @@ module _ (words : List ℕ) (speeds : List Float) (k : ℕ) where
       reported : 0 ≡ refusal_at (question (of_case k (segment i))) (lent words speeds)
       reported = sym (drain-taken words speeds k i (sym is))
 
-      pub drain_above : 1 ≤ i
-      drain_above = segment_above reported
-
-      pub drain_readable : Readable words speeds (get_or words 1 0) k (i - 1)
-      drain_readable = segment_readable reported
+      pub drain_there : (1 ≤ i) × (i ≤ get_or words 1 0)
+      drain_there = segment_there reported
 
       pub drain_queue : read_there.queue ≤ mv_most
       drain_queue = queue_high (case_taken (segment i) reported) (i - 1) (segment_inside reported)
@@ -230,8 +202,8 @@ module _ (words : List ℕ) (speeds : List Float) (k : ℕ) where
           ∙ ap figures (drain_shown (case_taken (segment i) reported) (i - 1) (segment_inside reported)))
 
 -- what each question's function needs
-pub ruleset asked_case = (refused_by, words_long, case_high, case_counts, case_queues, case_answered)
+pub ruleset asked_case = (refused_call, case_taken, case_answered)
 
-pub ruleset asked_segment = (refused_by, words_long, segment_above, segment_answered)
+pub ruleset asked_segment = (refused_call, case_taken, segment_there, segment_answered)
 
-pub ruleset asked_drain = (refused_by, words_long, drain_above, drain_queue, drain_answered)
+pub ruleset asked_drain = (refused_call, case_taken, drain_there, drain_queue, drain_answered)

@@ -1,12 +1,13 @@
 -- What a report reads in the words and speeds.
-use Rattle.std.specs.Prelude.{ℕ, ◌+◌, ◌*◌, ◌<◌, ◌≤◌, length, get_or, true, false, not, T, List, pos, is_nan, slice_index, to_bits, Float}
-use Rattle.std.specs.Float.{fin, nan, binary64}
+use Rattle.std.specs.Prelude.{ℕ, ◌+◌, ◌*◌, true, false, not, T, List, pos, is_nan, slice_index, to_bits, Float}
+use Rattle.std.specs.Float.{fin, binary64}
 use Rattle.std.specs.Float.Ieee.{lt, to_unsigned}
 use Rattle.laws.specs.Sums.{sum_of}
 use Rattle.format.specs.declared.Segment.{Segment}
-use Rattle.format.specs.Words.{network_words}
+use Rattle.format.specs.Words.{segment_in}
 use Rattle.metanet.specs.declared.SegmentState.{SegmentState}
 use Rattle.metanet.specs.Step.{rate_of}
+use Rattle.metanet.specs.Words.{net_of, state_at}
 use Rattle.book.specs.declared.CaseFigures.{CaseFigures}
 use Rattle.book.specs.declared.SegmentFigures.{SegmentFigures}
 use Rattle.book.specs.Arrangement.{case_word, case_speed}
@@ -38,6 +39,13 @@ state_figures s r =
       rate = rate_of s.most r.ramp;
     }
 
+-- state i, counted from 0, of case k, and the figures of its segment
+abbrev pub state_there : List ℕ → List Float → ℕ → ℕ → SegmentState
+state_there words speeds k i = let n = slice_index words 1 in state_at words speeds (case_word n k) (case_speed n k) i
+
+abbrev pub figures_there : List ℕ → List Float → ℕ → ℕ → SegmentFigures
+figures_there words speeds k i = state_figures (segment_in (net_of words) i) (state_there words speeds k i)
+
 -- ---- what reading them rests on
 
 -- a speed has a whole part that 64 bits hold, and it has bits
@@ -45,12 +53,3 @@ pub record Showable (v : Float) : Type 0 where
   pub above : T (lt (fin true 1 (pos 0)) v)
   pub under : T (lt v (fin false 1 (pos 64)))
   pub number : T (not (is_nan v))
-
--- segment i, counted from 0, of case k of a study of n segments stands in the arrays
-pub record Readable (words : List ℕ) (speeds : List Float) (n k i : ℕ) : Type 0 where
-  pub many : n ≤ 40
-  pub inside : i < n
-  pub network : network_words ≤ length words
-  pub state : case_word n k + 16 * i + 16 ≤ length words
-  pub speed : case_speed n k + i < length speeds
-  pub shown : Showable (get_or speeds (case_speed n k + i) nan)

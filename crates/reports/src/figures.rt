@@ -1,78 +1,106 @@
 // The figures that a report gives.
-ghost use Rattle.std.specs.Prelude.{◌≡◌, ◌≤◌, length, if◌then◌else◌, nat_eq};
-ghost use Rattle.format.specs.Words.{segment_in};
-ghost use Rattle.metanet.specs.Case.{open_kind};
-ghost use Rattle.metanet.specs.Words.{net_of, state_in, state_at};
+ghost use Rattle.std.specs.Prelude.{◌≡◌, ◌-◌, ◌<◌, ◌≤◌, slice_index};
+ghost use Rattle.metanet.specs.Step.{rate_of};
 ghost use Rattle.metanet.specs.Sound.{mv_most};
 ghost use Rattle.metanet.specs.Drain.{drain_time};
-ghost use Rattle.book.specs.Arrangement.{case_word, case_speed};
+ghost use Rattle.book.specs.Arrangement.{case_word};
 ghost use Rattle.book.specs.Question.{time_of};
-ghost use Rattle.case_words.specs.Sums.{Summable};
-ghost use Rattle.reports.specs.Figures.{figures_at, state_figures, Showable, Readable};
+ghost use Rattle.refusal.specs.Ready.{Reportable};
+ghost use Rattle.reports.specs.Figures.{figures_at, state_figures, state_there, figures_there, Showable};
 
 use book::{CaseFigures, SegmentFigures};
+use case_words::{Cases, StateWords};
 use format::Segment;
+use metanet::{Ramp, SegmentState};
+use network_words::kept::Words;
 
-// The figures of case k.
-#[tactic(auto, unfolding(crate::specs::Figures::figures_at))]
-pub(crate) fn case_figures(words: &[u64], n: usize, k: usize) -> CaseFigures
-    requires k_bound { k ≤ 6 }
-    requires summable { Summable words.now (case_word n k) 0 n }
-    requires summable_2 { Summable words.now (case_word n k) 1 n }
-    ensures { result ≡ figures_at words.now (case_word n k) n }
+// R as reported: Q, which is most, where open. A step says so too, in a line of what it makes of the rate.
+#[tactic(auto, unfolding(metanet::specs::Step::rate_of))]
+fn rate_of(most: u64, ramp: Ramp) -> u64
+    ensures { result ≡ rate_of most ramp }
 {
-    let at = case_words::FIRST_CASE + k * (16 * n + 8);
-    let e = at + 16 * n;
-    CaseFigures {
-        steps: words[e],
-        segments: case_words::column(words, at, 0, n),
-        queues: case_words::column(words, at, 1, n),
-        arrivals: words[e + 1],
-        exits: words[e + 2],
-        time: words[e + 3],
-    }
+    if ramp.kind == 0 { most } else { ramp.rate }
 }
 
-// R as reported: Q where open.
-fn rate_of(kind: u64, most: u64, rate: u64) -> u64
-    ensures { result ≡ (if nat_eq kind open_kind then most else rate) }
+// The figures of the segment s in the state r.
+#[tactic(auto, unfolding(crate::specs::Figures::state_figures))]
+fn state_figures(s: Segment, r: SegmentState) -> SegmentFigures
+    requires { Showable r.speed }
+    ensures { result ≡ state_figures s r }
 {
-    if kind == 0 { most } else { rate }
-}
-
-// The figures of the segment s, whose state starts these words and whose speed is v.
-#[tactic(auto, unfolding(crate::specs::Figures::state_figures, metanet::specs::Step::rate_of, metanet::specs::Words::state_in))]
-fn state_figures(s: Segment, w: &[u64], v: f64) -> SegmentFigures
-    requires in_bounds { 16 ≤ length w.now }
-    requires showable { Showable v }
-    ensures { result ≡ state_figures s (state_in w.now v) }
-{
+    let flows = r.flows;
     SegmentFigures {
-        count: w[0],
-        whole: std::num::truncating_f64_to_u64(v),
-        bits: f64::to_bits(v),
-        queue: w[1],
-        outflow: w[10],
-        release: w[11],
-        rate: rate_of(w[4], s.most, w[5]),
+        count: r.count,
+        whole: std::num::truncating_f64_to_u64(r.speed),
+        bits: f64::to_bits(r.speed),
+        queue: r.queue,
+        outflow: flows.outflow,
+        release: flows.release,
+        rate: rate_of(s.most, r.ramp),
     }
 }
 
-// The figures of segment i, counted from 0, of case k.
-pub(crate) fn segment_figures(
-    words: &[u64],
-    speeds: &[f64],
-    n: usize,
-    k: usize,
-    i: usize,
-) -> SegmentFigures
-    requires { Readable words.now speeds.now n k i }
-    ensures { result ≡ state_figures (segment_in (net_of words.now) i) (state_at words.now speeds.now (case_word n k) (case_speed n k) i) }
-{
-    let a = case_words::FIRST_CASE + k * (16 * n + 8) + 16 * i;
-    let b = k * n + i;
-    let s = network_words::kept_segment(&words[..network_words::NETWORK_WORDS], i as u32);
-    state_figures(s, &words[a..], speeds[b])
+// Case k of a sound study in the lent arrays: the live one, or that of a filled slot.
+#[derive(Clone, Copy)]
+pub(crate) struct Case<'a> {
+    pub(crate) words: &'a [u64],
+    pub(crate) speeds: &'a [f64],
+    pub(crate) k: u64,
+    ghost reportable: { Reportable words.now speeds.now (slice_index words.now 1) k },
+}
+
+impl Case<'_> {
+    // Where the cases of the study stand.
+    #[tactic(auto, using(crate::proofs::Reporting::case_placed))]
+    fn cases(&self) -> Cases
+        ensures { result.n ≡ slice_index self.now.words.now 1 }
+    {
+        Cases {
+            n: network_words::kept_size(self.words),
+        }
+    }
+
+    // The figures of the case.
+    #[tactic(auto, using(crate::proofs::Reporting::case_read), unfolding(crate::specs::Figures::figures_at))]
+    pub(crate) fn figures(&self) -> CaseFigures
+        ensures { let n = slice_index self.now.words.now 1 in result ≡ figures_at self.now.words.now (case_word n self.now.k) n }
+    {
+        let cases = self.cases();
+        let at = cases.word(self.k as usize);
+        let e = cases.totals(self.k as usize);
+        CaseFigures {
+            steps: self.words[e],
+            segments: case_words::column(self.words, at, 0, cases.n),
+            queues: case_words::column(self.words, at, 1, cases.n),
+            arrivals: self.words[e + 1],
+            exits: self.words[e + 2],
+            time: self.words[e + 3],
+        }
+    }
+
+    // The state of its segment i, counted from 0.
+    #[tactic(auto, using(crate::proofs::Reporting::case_placed, laws::proofs::Lists::rest_is))]
+    fn state(&self, i: usize) -> SegmentState
+        requires { i < slice_index self.now.words.now 1 }
+        ensures { result ≡ state_there self.now.words.now self.now.speeds.now self.now.k i }
+    {
+        let k = self.k as usize;
+        let cases = self.cases();
+        let own = StateWords {
+            words: &self.words[cases.word(k) + 16 * i..],
+        };
+        own.state(self.speeds[cases.speed(k) + i])
+    }
+
+    // The figures of its segment i, from 1.
+    #[tactic(auto, using(crate::proofs::Reporting::case_placed))]
+    pub(crate) fn segment(&self, i: u64) -> SegmentFigures
+        requires { (1 ≤ i) × (i ≤ slice_index self.now.words.now 1) }
+        ensures { result ≡ figures_there self.now.words.now self.now.speeds.now self.now.k (i - 1) }
+    {
+        let i = (i - 1) as usize;
+        state_figures(Words::of(self.words).segment(i), self.state(i))
+    }
 }
 
 // How many steps a queue takes to drain at a rate, in mv and mv a step; None where it never does.

@@ -1,8 +1,11 @@
 // What enters a segment, gathered from the segments that enter it, and what the speed makes of it.
 ghost use Rattle.std.specs.Prelude.{◌≡◌, ◌≤◌, replicate};
-ghost use Rattle.metanet.specs.Junction.{to_first, entry_speed, two_after};
+ghost use Rattle.metanet.specs.Junction.{entry_speed, two_after};
 ghost use Rattle.metanet.proofs.Entries.{no_entry, JoinOk, joined};
+ghost use Rattle.segment.specs.Passing.{passed_on, PassingOk};
 
+use crate::flow;
+use format::Following;
 use metanet::Entry;
 
 // Nothing has entered any of the 41 numbers yet.
@@ -34,12 +37,22 @@ pub fn join(e: Entry, amount: u64, out: u64, v: f64) -> Entry
     }
 }
 
-// What of a rest goes to the first.
-pub fn first_part(rest: u64, share: u64) -> u64
-    requires { (rest ≤ 1000000000000) × (share ≤ 1000) }
-    ensures { (result ≡ to_first rest share) × (result ≤ rest) }
+// A segment passes on: of its outflow at speed v, what passed goes to the first that follows it, or in part to each of two. Number 0 takes
+// what is passed on to none.
+#[tactic(auto, unfolding(crate::specs::Passing::passed_on))]
+pub fn pass_on(entries: &mut [Entry; 41], following: Following, passed: u64, outflow: u64, v: f64)
+    requires { PassingOk entries.old following passed outflow v }
+    ensures { entries.new ≡ passed_on entries.old following passed outflow v }
 {
-    rest * share / 1000
+    let first = following.first as usize;
+    if following.second == 0 {
+        entries[first] = join(entries[first], passed, outflow, v);
+        return;
+    }
+    let part = flow::thousandths(passed, following.share);
+    entries[first] = join(entries[first], part, outflow, v);
+    let second = following.second as usize;
+    entries[second] = join(entries[second], passed - part, outflow, v);
 }
 
 // u, of a segment at speed v.

@@ -1,12 +1,12 @@
 // Rates and flows of one segment, in mv.
 ghost use Rattle.std.specs.Prelude.{◌≡◌, ◌*◌, ◌/◌, ◌<◌, ◌≤◌, min};
-ghost use Rattle.metanet.specs.Flow.{jam_bound, sign_speed, alinea_rate, outflow_of, exit_part};
+ghost use Rattle.metanet.specs.Flow.{jam_bound, sign_speed, alinea_rate};
 ghost use Rattle.metanet.specs.Speed.{area};
-ghost use Rattle.metanet.proofs.Ready.{AreaOk, SignOk, RampOk};
+ghost use Rattle.metanet.specs.Step.{outflow_now};
+ghost use Rattle.metanet.proofs.Ready.{AreaOk};
 
 use crate::site::Site;
 use format::Segment;
-use metanet::{Ramp, SignSetting};
 
 // G, in lane-metres.
 pub(crate) fn area_of(s: Segment) -> u64
@@ -36,27 +36,27 @@ fn portion(most: u64, room: u64, range: u64) -> u64
     low + u64::from((low + 1) * range <= most * room)
 }
 
-// The speed that a shown sign gives, m/h.
-pub(crate) fn sign_speed(r: SignSetting) -> u64
-    requires { SignOk r }
-    ensures { (result ≡ sign_speed r) × (result ≤ 300000) }
+// What of x a share in thousandths is, rounded down: of an outflow what leaves by the off-ramp, of the rest what goes to the first.
+pub fn thousandths(x: u64, share: u64) -> u64
+    requires { (x ≤ 1000000000000) × (share ≤ 1000) }
+    ensures { (result ≡ x * share / 1000) × (result ≤ x) }
 {
-    r.limit * (500 + r.compliance)
-}
-
-// What of an outflow leaves by the off-ramp.
-pub(crate) fn exit_part(outflow: u64, share: u64) -> u64
-    requires { (outflow ≤ 1000000000000) × (share ≤ 1000) }
-    ensures { result ≡ exit_part outflow share }
-{
-    outflow * share / 1000
+    x * share / 1000
 }
 
 impl Site<'_> {
-    // The most that the segment with n mv lets in from its origin: 0 from the jam density on, and at once where there is no origin.
-    // Nothing branches on n: its room is J × G less the lesser of J × G and n.
-    pub(crate) fn jam_bound(&self, n: u64) -> u64
-        ensures { result ≡ jam_bound self.now.own.most self.now.own.jam self.now.own.critical self.now.lane_metres n }
+    // The speed that its sign shows, m/h.
+    pub(crate) fn sign_speed(&self) -> u64
+        ensures { (result ≡ sign_speed self.now.state.sign) × (result ≤ 300000) }
+    {
+        let r = self.state.sign;
+        r.limit * (500 + r.compliance)
+    }
+
+    // The most that it lets in from its origin: 0 from the jam density on, and at once where there is no origin. Nothing branches on N:
+    // its room is J × G less the lesser of J × G and N.
+    pub(crate) fn jam_bound(&self) -> u64
+        ensures { let s = self.now in result ≡ jam_bound s.own.most s.own.jam s.own.critical s.lane_metres s.state.count }
     {
         let s = self.own;
         if s.most == 0 {
@@ -65,17 +65,17 @@ impl Site<'_> {
         let full = s.jam * self.lane_metres;
         portion(
             s.most,
-            full - lesser(full, n),
+            full - lesser(full, self.state.count),
             (s.jam - s.critical) * self.lane_metres,
         )
     }
 
     // ALINEA's new rate, where at least one step is summed; the quotient goes towards zero on either side of the target.
-    pub(crate) fn alinea(&self, r: Ramp) -> u64
-        requires ramp_ok { RampOk self.now.own.most r }
-        requires some_summed { 0 < r.summed }
-        ensures { result ≡ alinea_rate r self.now.own.most self.now.lane_metres }
+    pub(crate) fn alinea(&self) -> u64
+        requires { 0 < self.now.state.ramp.summed }
+        ensures { result ≡ alinea_rate self.now.state.ramp self.now.own.most self.now.lane_metres }
     {
+        let r = self.ramp();
         let most = self.own.most;
         let wanted = r.summed * r.target * self.lane_metres;
         let over = r.summed * self.lane_metres;
@@ -87,11 +87,10 @@ impl Site<'_> {
         r.rate.saturating_sub(down).clamp(r.least, most)
     }
 
-    // What n mv at s m/h let out of the segment in a step.
-    pub(crate) fn outflow(&self, n: u64, s: u64) -> u64
-        requires { (n ≤ 1000000000000) × (s ≤ 200000) }
-        ensures { result ≡ outflow_of n s self.now.head.step self.now.own.metres }
+    // What a step lets out of it: no more than it has.
+    pub(crate) fn outflow(&self) -> u64
+        ensures { let s = self.now in (result ≡ outflow_now s.head s.own s.state) × (result ≤ s.state.count) }
     {
-        n * s * self.head.step / (3600 * self.own.metres)
+        self.state.count * self.whole_speed() * self.head.step / (3600 * self.own.metres)
     }
 }

@@ -3,11 +3,10 @@ ghost use Rattle.std.specs.Prelude.{◌≡◌, ◌≤◌};
 ghost use Rattle.laws.specs.Real.{real, ◌⊘◌};
 ghost use Rattle.format.specs.Words.{entry_in};
 ghost use Rattle.metanet.specs.Speed.{relaxation, convection, anticipation, merging, keep, new_speed, curve_speed, under_sign};
-ghost use Rattle.metanet.specs.Step.{whole_speed};
-ghost use Rattle.metanet.proofs.Ready.{StateOk};
+ghost use Rattle.metanet.specs.Step.{density, whole_speed};
 
 use crate::site::Site;
-use metanet::{Old, SegmentState, Sign};
+use metanet::{Old, Sign};
 
 // ρ: n mv on an area g.
 pub(crate) fn density_of(g: u64, count: u64) -> f64
@@ -17,7 +16,7 @@ pub(crate) fn density_of(g: u64, count: u64) -> f64
     case_words::whole(count) / case_words::whole(g)
 }
 
-// x where 1,000 ≤ x ≤ f, f where it is above, and 1,000 otherwise.
+// x where 1,000 ≤ x ≤ f, f where it is above, and 1,000 otherwise; f is F, a number of the curve, bounded so that it is exact as binary64.
 #[tactic(auto, unfolding(metanet::specs::Speed::keep))]
 fn kept(f: u64, x: f64) -> f64
     requires { f ≤ 200000 }
@@ -35,7 +34,7 @@ fn kept(f: u64, x: f64) -> f64
 }
 
 // The desired speed under a sign.
-pub(crate) fn desired(v: f64, sign: Sign) -> f64
+pub(crate) fn under_sign(v: f64, sign: Sign) -> f64
     ensures { result ≡ under_sign v sign }
 {
     match sign {
@@ -88,25 +87,33 @@ impl Site<'_> {
             / (o.density + case_words::whole(h.kappa))
     }
 
-    // s: the whole part of v.
-    pub(crate) fn whole_speed(&self, r: SegmentState) -> u64
-        requires { StateOk self.now.own (entry_in self.now.net.now self.now.own.curve 0) r }
-        ensures { (result ≡ whole_speed r) × (result ≤ 200000) }
+    // ρ: its density.
+    #[tactic(auto, unfolding(metanet::specs::Step::density))]
+    pub(crate) fn density(&self) -> f64
+        ensures { result ≡ density self.now.own self.now.state }
     {
-        std::num::truncating_f64_to_u64(r.speed)
+        density_of(self.lane_metres, self.state.count)
     }
 
-    // The speed that its curve gives at n mv.
-    pub(crate) fn curve_speed(&self, n: u64) -> f64
-        ensures { result ≡ curve_speed (entry_in self.now.net.now self.now.own.curve) n self.now.lane_metres }
+    // s: the whole part of v.
+    pub(crate) fn whole_speed(&self) -> u64
+        ensures { (result ≡ whole_speed self.now.state) × (result ≤ 200000) }
+    {
+        std::num::truncating_f64_to_u64(self.state.speed)
+    }
+
+    // The speed that its curve gives.
+    pub(crate) fn curve_speed(&self) -> f64
+        ensures { let s = self.now in result ≡ curve_speed (entry_in s.net.words.now s.own.curve) s.state.count s.lane_metres }
     {
         let g = self.lane_metres;
-        let j = n / g;
+        let n = self.state.count;
+        let j = (n / g) as usize;
         if 200 <= j {
             return case_words::whole(self.entry(200));
         }
-        let high = self.entry(j as u32);
-        let low = self.entry((j + 1) as u32);
+        let high = self.entry(j);
+        let low = self.entry(j + 1);
         case_words::whole(high) - case_words::whole((high - low) * (n % g)) / case_words::whole(g)
     }
 
@@ -114,7 +121,7 @@ impl Site<'_> {
     #[tactic(auto, unfolding(metanet::specs::Speed::new_speed))]
     pub(crate) fn new_speed(&self, o: Old, want: f64, on_ramp: bool, release: u64) -> f64
         requires { release ≤ 300000 }
-        ensures { result ≡ new_speed self.now.head self.now.own (entry_in self.now.net.now self.now.own.curve 0) o want on_ramp release }
+        ensures { result ≡ new_speed self.now.head self.now.own (entry_in self.now.net.words.now self.now.own.curve 0) o want on_ramp release }
     {
         let a = self.relax(want, o.speed);
         let b = self.convect(o);

@@ -1,19 +1,22 @@
-// Whether a case and a study are sound.
+// Whether a case and a study are sound. Words and speeds are two parameters: the two arrays that C lends.
 #![tactic(auto)]
 
+pub mod ranges; // ranges.rt: the ranges of a sign and of a ramp's setting
 mod case; // case.rt: a case
 mod study; // study.rt: a study
+pub mod live; // live.rt: the live case before a row of a run
 
-ghost use Rattle.std.specs.Prelude.{◌≡◌, not};
+ghost use Rattle.std.specs.Prelude.{◌≡◌, ◌||◌, ◌≤◌, ltb, length, not};
 ghost use Rattle.laws.specs.First.{row};
 ghost use Rattle.laws.specs.Refusal.{refused};
-ghost use Rattle.laws.specs.Sums.{sum_of};
-ghost use Rattle.metanet.proofs.Ready.{vehicles_at};
+ghost use Rattle.book.specs.Arrangement.{words_for, speeds_for};
 ghost use Rattle.book.specs.Sound.{sound};
-ghost use Rattle.book.proofs.Laid.{Laid};
-ghost use Rattle.book.proofs.Rows.{live_number};
 
+use case_words::Cases;
 use laws::Refusal;
+
+// Cases 1 to 6. Case 0 is the live one.
+pub const SLOTS: usize = 6;
 
 // Whether the arrays hold a sound study. Nothing is presumed of them.
 pub fn sound(words: &[u64], speeds: &[f64]) -> bool
@@ -33,13 +36,10 @@ pub fn check(words: &[u64], speeds: &[f64]) -> Result<(), Refusal>
     Ok(())
 }
 
-// 12 where S or m of a ramp, or the totals, of the live case of n segments, of which vehicles is the mv, pass their bounds.
-#[tactic(auto, using(crate::proofs::Steps::then_next))]
-pub fn check_live(words: &[u64], speeds: &[f64], n: usize, vehicles: u64) -> Result<(), Refusal>
-    requires laid { Laid words.now speeds.now n }
-    requires vehicles_value { vehicles ≡ sum_of (vehicles_at words.now 2576) n }
-    ensures { refused result ≡ live_number words.now n }
+// Whether the arrays are too short for the live case and the six slots, which stand behind one another.
+pub fn too_short(words: &[u64], speeds: &[f64], cases: Cases) -> bool
+    ensures { result ≡ (ltb (length words.now) (words_for cases.n) || ltb (length speeds.now) (speeds_for cases.n)) }
 {
-    case::check_means(words, case_words::FIRST_CASE, n)?;
-    case::check_totals(words, case_words::FIRST_CASE + 16 * n, vehicles)
+    (words.len() < cases.word(SLOTS) + cases.length())
+        | (speeds.len() < cases.speed(SLOTS) + cases.n)
 }

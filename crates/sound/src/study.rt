@@ -2,31 +2,21 @@
 ghost use Rattle.std.specs.Prelude.{◌≡◌, ◌+◌, ◌<◌, ◌≤◌};
 ghost use Rattle.laws.specs.First.{first_of};
 ghost use Rattle.laws.specs.Refusal.{refused};
-ghost use Rattle.book.specs.Arrangement.{case_length};
 ghost use Rattle.book.specs.Sound.{case_number_at, slot_number, cases_number, sound_number};
 ghost use Rattle.book.proofs.Laid.{Laid};
 
+use crate::SLOTS;
 use crate::case::Case;
+use case_words::Cases;
 use laws::Refusal;
 
-// Cases 1 to 6. Case 0 is the live one.
-const SLOTS: usize = 6;
-
-// How many words a case of n segments has: 16 a state, and 8 for the totals.
-fn case_length(n: usize) -> usize
-    requires { n ≤ 40 }
-    ensures { result ≡ case_length n }
-{
-    16 * n + 8
-}
-
-// A study of n segments in the lent arrays, whose network and lengths are judged.
+// A study in the lent arrays, whose network and lengths are judged.
 #[derive(Clone, Copy)]
 struct Study<'a> {
     words: &'a [u64],
     speeds: &'a [f64],
-    n: usize,
-    ghost laid: { Laid words.now speeds.now n },
+    cases: Cases,
+    ghost laid: { Laid words.now speeds.now cases.n },
 }
 
 impl Study<'_> {
@@ -39,9 +29,9 @@ impl Study<'_> {
         let case = Case {
             words: self.words,
             speeds: self.speeds,
-            at: case_words::FIRST_CASE + k * case_length(self.n),
-            from: k * self.n,
-            n: self.n,
+            at: self.cases.word(k),
+            from: self.cases.speed(k),
+            n: self.cases.n,
         };
         case.check()
     }
@@ -59,6 +49,7 @@ impl Study<'_> {
         }
     }
 
+    // Slots are numbered from 1, and first_of, by which the definition goes, counts from 0.
     #[tactic(auto, using(laws::proofs::Refused::row_loop))]
     fn check_slots(&self) -> Result<(), Refusal>
         ensures { refused result ≡ first_of (λ k. slot_number self.now.words.now self.now.speeds.now (k + 1)) SLOTS }
@@ -93,15 +84,17 @@ pub(crate) fn check(words: &[u64], speeds: &[f64]) -> Result<(), Refusal>
         return Err(Refusal::NotSound);
     }
     let net = &words[..network_words::NETWORK_WORDS];
-    if network_words::check(net).is_err() {
+    network_words::check(net).or(Err(Refusal::NotSound))?;
+    let cases = Cases {
+        n: network_words::kept_size(words),
+    };
+    if crate::too_short(words, speeds, cases) {
         return Err(Refusal::NotSound);
     }
-    let n = network_words::kept_head(net).size as usize;
-    if (words.len() < case_words::FIRST_CASE + (1 + SLOTS) * case_length(n))
-        | (speeds.len() < (1 + SLOTS) * n)
-    {
-        return Err(Refusal::NotSound);
-    }
-    let study = Study { words, speeds, n };
+    let study = Study {
+        words,
+        speeds,
+        cases,
+    };
     study.check_cases()
 }

@@ -12,7 +12,6 @@ use Rattle.laws.specs.declared.Refusal.{Refusal}
 use Rattle.laws.specs.Refusal.{number}
 use Rattle.laws.proofs.Lists.{span}
 use Rattle.laws.proofs.Puts.{part_changed}
-use Rattle.laws.proofs.Refused.{number_some}
 use Rattle.format.specs.Network.{segment_of}
 use Rattle.metanet.specs.declared.Setting.{Setting}
 use Rattle.metanet.specs.Change.{compliance_bad}
@@ -20,19 +19,15 @@ use Rattle.metanet.specs.Line.{signed, metered}
 use Rattle.metanet.proofs.InWords.{signed_words, metered_words}
 use Rattle.book.specs.Arrangement.{network_at, size_at, words_for, speeds_for}
 use Rattle.book.specs.Question.{accepted, verdict_says}
-use Rattle.book.specs.Calls.{Call, item, hold, recall, drop_slot}
+use Rattle.book.specs.Calls.{item, hold, recall, drop_slot}
 use Rattle.book.specs.Perform.{lent, refusal_at, answer_of, copied_words, copied_speeds, Performs}
 use Rattle.book.proofs.Judging.{size_high}
-use Rattle.book.proofs.Performing.{refuses, accepts}
+use Rattle.book.proofs.Performing.{refused_call, accepts}
 use Rattle.refusal.proofs.Settings.{state_word, sign_within, sign_compliance, meter_within}
 use Rattle.refusal.proofs.Slots.{drop_as_recall, hold-slot, recall-slot, held, recalled, dropped}
 use Rattle.study.proofs.Changing.{sign_stored, sign_speeds_stay, meter_stored, meter_speeds_stay}
 
 module _ (words : List ℕ) (speeds : List Float) where
-  -- refused, a call leaves both arrays as they came
-  pub call_refused : (call : Call) (why : Refusal) → number why ≡ refusal_at call (lent words speeds) → Performs call words speeds (verdict_says (Err why)) words speeds
-  call_refused call why e = refuses call words speeds e (number_some why)
-
   -- ---- Sign and Meter write the 16 words of segment i's state
 
   module _ (i : ℕ) where
@@ -89,14 +84,14 @@ module _ (words : List ℕ) (speeds : List Float) where
 
     -- Drop's rows are Recall's
     pub drop_refused : (why : Refusal) → number why ≡ refusal_at (recall k) (lent words speeds) → Performs (drop_slot k) words speeds (verdict_says (Err why)) words speeds
-    drop_refused why e = call_refused (drop_slot k) why (e ∙ sym (drop_as_recall words speeds k))
+    drop_refused why e = refused_call (drop_slot k) words speeds why (e ∙ sym (drop_as_recall words speeds k))
 
-pub ruleset sign_call = (call_refused, sign_fits, sign_done)
+pub ruleset sign_call = (refused_call, sign_fits, sign_done)
 
-pub ruleset meter_call = (call_refused, meter_fits, meter_done)
+pub ruleset meter_call = (refused_call, meter_fits, meter_done)
 
-pub ruleset hold_call = (call_refused, hold_fits, hold_done)
+pub ruleset hold_call = (refused_call, hold_fits, hold_done)
 
-pub ruleset recall_call = (call_refused, recall_fits, recall_done)
+pub ruleset recall_call = (refused_call, recall_fits, recall_done)
 
 pub ruleset drop_call = (drop_refused, recall_fits, drop_done)

@@ -22,14 +22,12 @@ use Rattle.book.specs.Arrangement.{size_at}
 use Rattle.book.specs.Question.{accepted}
 use Rattle.book.specs.Calls.{item}
 use Rattle.book.specs.Sound.{sound}
-use Rattle.book.specs.Perform.{lent, refusal_at, stored, answer_of, Performs}
-use Rattle.book.proofs.Network.{size_word}
-use Rattle.book.proofs.Performing.{accepts, accepted-sound}
+use Rattle.book.specs.Perform.{Arrays, Outcome, lent, refusal_at, stored, answer_of, perform, Performs}
+use Rattle.book.proofs.Performing.{unless-accepted, refused_call, accepts, accepted-sound}
 use Rattle.book.proofs.Rows.{RowReady, row_next, row_sized, row_vehicles}
 use Rattle.book.proofs.Sounds.{laid}
 use Rattle.refusal.proofs.Stepping.{runs_left, step_ready, step_totals}
 use Rattle.study.specs.Rows.{RowTaken}
-use Rattle.study.proofs.Answered.{call_refused}
 use Rattle.study.proofs.Changing.{step_stored, step_speeds_stored}
 
 module _ (words : List ℕ) (speeds : List Float) (ds : List ℕ) where
@@ -41,28 +39,33 @@ module _ (words : List ℕ) (speeds : List Float) (ds : List ℕ) where
     pub step_room : (refusal_at (item (stepped ds)) (lent words speeds) ≡ 0) × (2576 ≤ length words) × (get_or words 2560 0 < 1000000)
     step_room = (taken, omega (arith, (laid words speeds is_sound).room), runs_left words speeds ds is_sound taken)
 
-    module _ (n : ℕ) (size : n ≡ size_at words) where
-      pub ready_to_step : Ready words speeds ds 2576 0 n
-      ready_to_step = step_ready words speeds ds is_sound taken size
+    abbrev n : ℕ
+    n = length ds
 
-      pub totals_to_step : TotalsOk words (2576 + 16 * n)
-      totals_to_step = step_totals words speeds ds is_sound taken size
+    pub size : n ≡ size_at words
+    size = (step_ready words speeds ds is_sound taken refl).arrivals
 
-      pub step_words_done : {words' : List ℕ} → words' ≡ step_case_words words speeds 2576 0 n ds
-          → set words' 2560 (get_or words 2560 0 + 1) ≡ (stored (item (stepped ds)) (lent words speeds)).words
-      step_words_done e = ap (λ (l : List ℕ). set l 2560 (get_or words 2560 0 + 1)) e ∙ sym (step_stored words speeds ds is_sound taken size)
+    pub ready_to_step : Ready words speeds ds 2576 0 n
+    ready_to_step = step_ready words speeds ds is_sound taken size
 
-      pub step_speeds_done : step_case_speeds words speeds 2576 0 n ds ≡ (stored (item (stepped ds)) (lent words speeds)).speeds
-      step_speeds_done = sym (step_speeds_stored words speeds ds is_sound taken size)
+    pub totals_to_step : TotalsOk words (2576 + 16 * n)
+    totals_to_step = step_totals words speeds ds is_sound taken size
 
-  -- ---- Step: n is read where the code reads it
+    pub step_words_done : {words' : List ℕ} → words' ≡ step_case_words words speeds 2576 0 n ds
+        → set words' 2560 (get_or words 2560 0 + 1) ≡ (stored (item (stepped ds)) (lent words speeds)).words
+    step_words_done e = ap (λ (l : List ℕ). set l 2560 (get_or words 2560 0 + 1)) e ∙ sym (step_stored words speeds ds is_sound taken size)
+
+    pub step_speeds_done : step_case_speeds words speeds 2576 0 n ds ≡ (stored (item (stepped ds)) (lent words speeds)).speeds
+    step_speeds_done = sym (step_speeds_stored words speeds ds is_sound taken size)
+
+  -- ---- Step
   module _ (taken : 0 ≡ refusal_at (item (stepped ds)) (lent words speeds)) where
-    ready : RowReady words speeds (get_or words 1 0)
-    ready = row_sized (sym (size_word words)) (is_sound (sym taken))
+    ready : RowReady words speeds (length ds)
+    ready = row_sized (size (sym taken)) (is_sound (sym taken))
 
-    pub step_fits : let n = get_or words 1 0 in (refusal_at (item (stepped ds)) (lent words speeds) ≡ 0)
-        × (n ≡ size_at words) × (n ≤ 40) × (2576 + 16 * n ≤ length words) × ((i : ℕ) → i < n → vehicles_at words 2576 i ≤ 2000000000000)
-    step_fits = let v = row_vehicles ready in (sym taken, sym (size_word words), v.0.0, v.0.1, v.1)
+    pub step_fits : let n = length ds in (refusal_at (item (stepped ds)) (lent words speeds) ≡ 0)
+        × (n ≤ 40) × (2576 + 16 * n ≤ length words) × ((i : ℕ) → i < n → vehicles_at words 2576 i ≤ 2000000000000)
+    step_fits = let v = row_vehicles ready in (sym taken, v.0.0, v.0.1, v.1)
 
     pub step_done : {words' : List ℕ} {speeds' : List Float} → words' ≡ (stored (item (stepped ds)) (lent words speeds)).words
         → speeds' ≡ (stored (item (stepped ds)) (lent words speeds)).speeds → Performs (item (stepped ds)) words speeds accepted words' speeds'
@@ -76,7 +79,7 @@ module _ (words : List ℕ) (speeds : List Float) (ds : List ℕ) where
 
   pub row_refused : (why : Refusal) → number why ≡ refusal_at (item (stepped ds)) (lent words speeds) → RowTaken words speeds ds (number why) words speeds
   row_refused why e =
-      let g = call_refused words speeds (item (stepped ds)) why e in
+      let g = refused_call (item (stepped ds)) words speeds why e in
       record { number = e; words_are = g.words_are; speeds_are = g.speeds_are }
 
 pub vehicles_few : (words : List ℕ) (n : ℕ) → sum_of (vehicles_at words 2576) n ≤ 2000000000000
@@ -85,14 +88,19 @@ vehicles_few words n few = (few, λ i l. omega (arith, sum_term (vehicles_at wor
 
 -- the next row meets what this one met
 pub ready_next : {words : List ℕ} {speeds : List Float} {n : ℕ} {words' : List ℕ} {speeds' : List Float} (ds : List ℕ) → RowReady words speeds n
-    → 0 ≡ refusal_at (item (stepped ds)) (lent words speeds) → words' ≡ (stored (item (stepped ds)) (lent words speeds)).words
-    → speeds' ≡ (stored (item (stepped ds)) (lent words speeds)).speeds → RowReady words' speeds' n
-ready_next ds r taken p q = rw (p, q) (row_next ds r (sym taken))
+    → RowTaken words speeds ds 0 words' speeds' → RowReady words' speeds' n
+unfolding perform
+ready_next {words} {speeds} ds r t =
+    let a = lent words speeds in
+    let c = item (stepped ds) in
+    let z = sym t.number in
+    let is : (perform c a).state ≡ stored c a = ap (λ (o : Outcome Arrays). o.state) (unless-accepted (refusal_at c a) a _ z) in
+    rw (t.words_are, t.speeds_are, is) (row_next ds r z)
 
 -- row k of a file was read into the first n places, and these were taken
-pub row_taken : {b : List ℕ} {n : ℕ} {words : List ℕ} {speeds : List Float} {r : ℕ} {words' : List ℕ} {speeds' : List Float} (k : ℕ) (read rest : List ℕ)
+pub row_taken : {b : List ℕ} {n : ℕ} {words : List ℕ} {speeds : List Float} {r : ℕ} {words' : List ℕ} {speeds' : List Float} (k : ℕ) {read : List ℕ} (rest : List ℕ)
     → AcceptedSurvey n b → read ≡ table (λ i. arrival_on b (k * n + i)) n ++ rest → RowTaken words speeds (take n read) r words' speeds' → RowTaken words speeds (row_on b k) r words' speeds'
-row_taken {b} {n} {words} {speeds} {r} {words'} {speeds'} k read rest a e t =
+row_taken {b} {n} {words} {speeds} {r} {words'} {speeds'} k {read} rest a e t =
     let row = table (λ i. arrival_on b (k * n + i)) n in
     let first_are : take n read ≡ row_on b k = ap (take n) e ∙ take_at row rest n (length-table _ n) ∙ row_is b a.size_is k in
     subst (λ (ds : List ℕ). RowTaken words speeds ds r words' speeds') first_are t
@@ -102,6 +110,6 @@ row_fits b n k a more = (row_within a k more, a.size_high)
 
 pub ruleset accepted_step = (step_room, ready_to_step, totals_to_step, step_words_done, step_speeds_done)
 
-pub ruleset step_call = (call_refused, step_fits, step_done)
+pub ruleset step_call = (refused_call, step_fits, step_done)
 
 pub ruleset row_step = (row_refused, row_done, vehicles_few)

@@ -1,4 +1,5 @@
-// What a sign and a setting put into a segment's state of 16 words.
+// What a sign and a setting put into a segment's state of 16 words. They are lent as a slice: as an array they would come in an Option, with an
+// arm that is never reached.
 ghost use Rattle.std.specs.Prelude.{◌≡◌, false, length};
 ghost use Rattle.metanet.specs.Change.{compliance_bad, sign_for, ramp_for};
 ghost use Rattle.metanet.specs.Case.{plain_ramp};

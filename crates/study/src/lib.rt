@@ -5,17 +5,27 @@ mod change; // change.rt: what a sign and a setting put into a state
 mod copy; // copy.rt: a case copied to the place of another
 mod rows; // rows.rt: a row of arrivals taken as a step, and the rows of a survey file
 
+ghost use Rattle.std.specs.Prelude.{◌≡◌, ◌≤◌};
 ghost use Rattle.metanet.specs.Line.{signed, metered, stepped};
 ghost use Rattle.book.specs.Calls.{item, hold, recall, drop_slot};
 ghost use Rattle.book.specs.Question.{verdict_says};
 ghost use Rattle.book.specs.Perform.{Performs};
 ghost use Rattle.book.specs.Run.{PerformsRun, ran_says};
+ghost use Rattle.refusal.proofs.Settings.{state_word};
 
 use book::Ran;
-use case_words::{FIRST_CASE, RUN_WORD};
+use case_words::{Cases, FIRST_CASE, RUN_WORD};
 use laws::Refusal;
 use metanet::Setting;
 use refusal::calls;
+
+// The first word of the state of segment i, counted from 1, in the live case.
+fn state_word(i: u64) -> usize
+    requires { (1 ≤ i) × (i ≤ 40) }
+    ensures { result ≡ state_word i }
+{
+    FIRST_CASE + 16 * (i - 1) as usize
+}
 
 // Sets the sign of segment i, from 1: a limit in km/h, 0 where it is dark, with compliance in thousandths.
 #[tactic(auto, using(crate::proofs::Answered::sign_call))]
@@ -29,7 +39,7 @@ pub fn sign(
     ensures { Performs (item (signed i limit compliance)) words.old speeds.now (verdict_says result) words.new speeds.now }
 {
     calls::check_sign(words, speeds, i, limit, compliance)?;
-    let at = FIRST_CASE + 16 * ((i - 1) as usize);
+    let at = state_word(i);
     change::put_sign(&mut words[at..at + 16], limit, compliance);
     Ok(())
 }
@@ -41,7 +51,7 @@ pub fn meter(words: &mut [u64], speeds: &[f64], i: u64, setting: Setting) -> Res
 {
     calls::check_meter(words, speeds, i, setting)?;
     let most = refusal::segment::segment_at(words, i).most;
-    let at = FIRST_CASE + 16 * ((i - 1) as usize);
+    let at = state_word(i);
     change::put_setting(&mut words[at..at + 16], most, setting);
     Ok(())
 }
@@ -52,9 +62,8 @@ pub fn step(words: &mut [u64], speeds: &mut [f64], arrivals: &[u32]) -> Result<(
     ensures { Performs (item (stepped arrivals.now)) words.old speeds.old (verdict_says result) words.new speeds.new }
 {
     calls::check_step(words, speeds, arrivals)?;
-    let n = words[1] as usize;
-    let vehicles = case_words::vehicles_in(words, FIRST_CASE, n);
-    rows::accepted_step(words, speeds, arrivals, n, vehicles);
+    let vehicles = case_words::vehicles_in(words, FIRST_CASE, arrivals.len());
+    rows::accepted_step(words, speeds, arrivals, vehicles);
     Ok(())
 }
 
@@ -64,7 +73,7 @@ pub fn run(words: &mut [u64], speeds: &mut [f64], file: &[u8]) -> Result<Ran, Re
     ensures { PerformsRun file.now words.old speeds.old (ran_says result) words.new speeds.new }
 {
     calls::check_run(words, speeds, file)?;
-    let n = words[1] as usize;
+    let n = network_words::kept_size(words);
     Ok(rows::run_rows(words, speeds, file, n))
 }
 
@@ -74,9 +83,9 @@ pub fn hold(words: &mut [u64], speeds: &mut [f64], k: u64) -> Result<(), Refusal
     ensures { Performs (hold k) words.old speeds.old (verdict_says result) words.new speeds.new }
 {
     calls::check_hold(words, speeds, k)?;
-    let n = words[1] as usize;
+    let n = network_words::kept_size(words);
     let slot = k as usize;
-    copy::copy_case(words, speeds, n, 0, slot);
+    copy::copy_case(words, speeds, Cases { n }, 0, slot);
     words[RUN_WORD + slot] = 1;
     Ok(())
 }
@@ -87,8 +96,8 @@ pub fn recall(words: &mut [u64], speeds: &mut [f64], k: u64) -> Result<(), Refus
     ensures { Performs (recall k) words.old speeds.old (verdict_says result) words.new speeds.new }
 {
     calls::check_recall(words, speeds, k)?;
-    let n = words[1] as usize;
-    copy::copy_case(words, speeds, n, k as usize, 0);
+    let n = network_words::kept_size(words);
+    copy::copy_case(words, speeds, Cases { n }, k as usize, 0);
     Ok(())
 }
 

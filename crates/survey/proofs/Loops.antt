@@ -1,24 +1,40 @@
 -- A turn of each of the two loops: one more arrival is put in the list, or written in the file.
-use Rattle.std.proofs.Common.{◌≡◌, sym, ap, ◌∙◌, refl, ℕ, ◌+◌, ◌*◌, ◌<◌, ◌≤◌, List, [], ◌∷◌, ◌++◌, length, set, take, drop, add-one}
-use Rattle.std.proofs.lemmas.List.{set_split}
+use Rattle.std.proofs.Common.{◌≡◌, sym, ap, ◌∙◌, ℕ, zero, suc, ◌+◌, ◌*◌, ◌<◌, ◌≤◌, List, [], ◌++◌, ◌/◌, length, length-drop, get_or, set, take, drop, add-one, arith, w32, lit<}
+use Rattle.std.proofs.lemmas.List.{drop-drop, get_or-drop, get_or-take}
+use Rattle.std.specs.Int.{from_be_bytes}
+use Rattle.std.specs.Simd.{first_chunks}
 use borrow.Rule.Slice.PartMut.{put_mid}
+use Rattle.laws.specs.BigEndian.{byte_at}
 use Rattle.laws.specs.Lists.{table, part, puts}
 use Rattle.laws.proofs.BigEndian.{length_u32}
-use Rattle.laws.proofs.Lists.{length-table}
-use Rattle.laws.proofs.Puts.{put_after, puts_none, puts_more, part_back}
+use Rattle.laws.proofs.Puts.{table_none, table_more, puts_none, puts_more, part_back}
+use Rattle.survey_file.specs.File.{arrival_on}
 use Rattle.survey_file.proofs.RoundTrip.{arrival_bytes}
 
-module _ (f : ℕ → ℕ) (l : List ℕ) where
-  pub table_none : l ≡ table f 0 ++ drop 0 l
-  unfolding table
-  table_none = refl
+-- byte j of entry i, of the k entries of four bytes from place s on
+pub entry_byte : (b : List ℕ) (k s i j : ℕ) → i < k → j < 4 → get_or (get_or (first_chunks 4 k (drop s b)) i []) j 0 ≡ byte_at b (s + 4 * i + j)
+entry_byte b zero s i j h l = omega (arith, h)
+entry_byte b (suc k) s zero j h l = get_or-take 4 (drop s b) j 0 l ∙ get_or-drop s b j 0 ∙ ap (byte_at b) (omega arith)
+entry_byte b (suc k) s (suc i) j h l =
+    ap (λ (xs : List ℕ). get_or (get_or (first_chunks 4 k xs) i []) j 0) (drop-drop 4 s b)
+    ∙ entry_byte b k (s + 4) i j (omega (arith, h)) l
+    ∙ ap (byte_at b) (omega arith)
 
-  pub table_more : (out : List ℕ) (i x : ℕ) → i < length out → out ≡ table f i ++ drop i l → x ≡ f i → set out i x ≡ table f (i + 1) ++ drop (i + 1) l
-  unfolding table
-  table_more out i x h is e =
-      rw (set_split out i x h, e, add-one) (rw add-one at (put_after l out (table f i) (f i ∷ []) i 1 (length-table f i) is))
+-- arrival first + i is entry i of those from arrival first on, and joins the i before it
+pub put_next : (b l out xs : List ℕ) (entries : List (List ℕ)) (first i x : ℕ) → entries ≡ first_chunks 4 (length xs / 4) xs
+    → xs ≡ drop (8 + 4 * first) b → x ≡ from_be_bytes w32 (get_or entries i []) → i < length out → 8 + 4 * (first + i) + 4 ≤ length b
+    → out ≡ table (λ k. arrival_on b (first + k)) i ++ drop i l
+    → set out i x ≡ table (λ k. arrival_on b (first + k)) (i + 1) ++ drop (i + 1) l
+put_next b l out xs entries first i x are at is h room e =
+    table_more (λ k. arrival_on b (first + k)) l out i x h e (is ∙ rw are (grind (arith, byte 0 (lit< tt), byte 1 (lit< tt), byte 2 (lit< tt), byte 3 (lit< tt))))
+  where
+    byte : (j : ℕ) → j < 4 → get_or (get_or (first_chunks 4 (length xs / 4) xs) i []) j 0 ≡ byte_at b (8 + 4 * (first + i) + j)
+    byte j l =
+        ap (λ (ys : List ℕ). get_or (get_or (first_chunks 4 (length ys / 4) ys) i []) j 0) at
+        ∙ entry_byte b (length (drop (8 + 4 * first) b) / 4) (8 + 4 * first) i j (simp length-drop (omega (arith, room))) l
+        ∙ ap (byte_at b) (omega arith)
 
-pub ruleset put_loop = (table_none, table_more)
+pub ruleset put_loop = (table_none, put_next)
 
 module _ (list l : List ℕ) (room : 8 + 4 * length list ≤ length l) where
   pub puts_first : l ≡ puts 4 (arrival_bytes list) 8 0 l

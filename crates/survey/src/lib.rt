@@ -2,7 +2,7 @@
 #![tactic(auto)]
 
 mod arrivals; // arrivals.rt: arrivals read one after the other
-mod writer; // writer.rt: what refuses a list, the head and the arrivals written
+mod writer; // writer.rt: what refuses a list, and the arrivals written
 
 ghost use Rattle.std.specs.Prelude.{◌≡◌, ◌+◌, ◌*◌, ◌<◌, ◌≤◌, ◌++◌, length, drop, IfOk};
 ghost use Rattle.laws.specs.Lists.{table};
@@ -13,6 +13,7 @@ ghost use Rattle.survey_file.specs.Written.{write_number, written_survey};
 
 use laws::Refusal;
 
+// The mark of this file; crate network has its own, in a line as well.
 fn has_mark(file: &[u8]) -> bool
     ensures { result ≡ has_mark file.now }
 {
@@ -53,7 +54,7 @@ pub fn row(file: &[u8], n: usize, r: usize, out: &mut [u32])
 
 // The reader: all arrivals go over the first places of the list, later places stay, and the answer is the row count.
 // A refused call leaves the list as it came.
-#[tactic(auto, using(crate::proofs::Answer::reading), unfolding(survey_file::specs::Read::read_number, survey_file::specs::Read::read_list, survey_file::specs::File::arrivals_on, laws::specs::First::row))]
+#[tactic(auto, using(crate::proofs::Answer::reading), unfolding(survey_file::specs::Read::read_number, survey_file::specs::Read::read_list, laws::specs::First::row))]
 pub fn read(file: &[u8], n: u64, list: &mut [u32]) -> Result<u64, Refusal>
     ensures refusal { refused result ≡ read_number n file.now list.old }
     ensures rows { IfOk result (λ rows. rows ≡ rows_on file.now) }
@@ -70,13 +71,15 @@ pub fn read(file: &[u8], n: u64, list: &mut [u32]) -> Result<u64, Refusal>
 }
 
 // The writer: the file goes over the first bytes of out, later bytes stay. A refused call leaves them as they came.
-#[tactic(auto, using(crate::proofs::Answer::writing), unfolding(survey_file::specs::Written::written_survey))]
+#[tactic(auto, using(crate::proofs::Answer::writing), unfolding(survey_file::specs::Written::written_survey, survey_file::specs::Written::head_bytes))]
 pub fn write(n: u64, list: &[u32], out: &mut [u8]) -> Result<(), Refusal>
     ensures value { refused result ≡ write_number n list.now out.old }
     ensures out_after { out.new ≡ written_survey n list.now out.old }
 {
     writer::check(n, list, out)?;
-    writer::put_head(out, n, list.len() as u64 / n);
+    let rows = list.len() as u64 / n;
+    let [high, low] = (rows as u16).to_be_bytes();
+    out[..8].copy_from_slice(&[b'F', b'W', b'D', 0, 1, n as u8, high, low]);
     writer::put_arrivals(list, out);
     Ok(())
 }

@@ -1,11 +1,10 @@
 // A survey file made from a list of arrivals.
-ghost use Rattle.std.specs.Prelude.{◌≡◌, ◌+◌, ◌*◌, ◌≤◌, ◌++◌, length, get_or, drop};
+ghost use Rattle.std.specs.Prelude.{◌≡◌, ◌+◌, ◌*◌, ◌≤◌, length, get_or};
 ghost use Rattle.laws.specs.Lists.{puts};
 ghost use Rattle.laws.specs.BigEndian.{u32_bytes};
 ghost use Rattle.laws.specs.Refusal.{refused};
-ghost use Rattle.survey_file.specs.Written.{head_bytes, write_number};
+ghost use Rattle.survey_file.specs.Written.{write_number};
 
-use arrays::number;
 use laws::Refusal;
 
 // Whether the list is whole rows that a file may have, and out has room for it; and if not, why.
@@ -23,32 +22,14 @@ pub(crate) fn check(n: u64, list: &[u32], out: &[u8]) -> Result<(), Refusal>
     Ok(())
 }
 
-#[tactic(auto, unfolding(survey_file::specs::Written::head_bytes))]
-pub(crate) fn put_head(out: &mut [u8], n: u64, rows: u64)
-    requires { 8 ≤ length out.old }
-    ensures { out.new ≡ head_bytes n rows ++ drop 8 out.old }
-{
-    let head = [
-        b'F',
-        b'W',
-        b'D',
-        0,
-        1,
-        number::low(n),
-        number::low(rows / 256),
-        number::low(rows),
-    ];
-    out[..8].copy_from_slice(&head);
-}
-
-// Writes the list from byte 8 of the file on.
-#[tactic(auto, using(crate::proofs::Loops::write_loop))]
+// Writes the list from byte 8 of the file on, by index: of what is written through chunks_exact_mut the library promises the length alone.
+#[tactic(auto, using(crate::proofs::Loops::write_loop), unfolding(laws::specs::BigEndian::u32_bytes))]
 pub(crate) fn put_arrivals(list: &[u32], out: &mut [u8])
     requires { 8 + 4 * length list.now ≤ length out.old }
     ensures { out.new ≡ puts 4 (λ k. u32_bytes (get_or list.now k 0)) 8 (length list.now) out.old }
 {
     for (k, arrival) in list.iter().enumerate() {
         let at = 8 + 4 * k;
-        number::put_u32(&mut out[at..at + 4], u64::from(*arrival));
+        out[at..at + 4].copy_from_slice(&arrival.to_be_bytes());
     }
 }

@@ -47,13 +47,10 @@ fn run(file: &[u8], words: &mut [u64], speeds: &mut [f64]) -> Result<[Tally; 3],
     Ok(list(words, speeds))
 }
 
-fn print_refusal(rt: &impl Print, why: Refusal) -> io::Result<()> {
-    println!(rt; "{}", u64::from(why))
-}
-
+// A line of the listing. The figures are a type of another crate and are printed here alone, so that a Display would be no plainer.
 fn print_tally(rt: &impl Print, tally: Tally) -> io::Result<()> {
     match tally {
-        Err(why) => print_refusal(rt, why),
+        Err(why) => println!(rt; "{why}"),
         Ok(f) => println!(rt;
             "{} {} {} {} {} {}",
             f.steps, f.segments, f.queues, f.arrivals, f.exits, f.time
@@ -65,10 +62,11 @@ fn print_tally(rt: &impl Print, tally: Tally) -> io::Result<()> {
 fn main(rt: HostRuntime) -> io::Result<()> {
     let mut file = Vec::new(rt.alloc());
     rt.reader().take(MOST_READ).read_to_end(&mut file)?;
+    // the arrays that a caller in C would lend
     let mut words = [0; 7112];
     let mut speeds = [0.0; 280];
     match run(&file, &mut words, &mut speeds) {
-        Err(why) => print_refusal(&rt, why),
+        Err(why) => println!(rt; "{why}"),
         Ok(tallies) => {
             println!(rt; "step segments queues arrivals exits time")?;
             for tally in tallies {

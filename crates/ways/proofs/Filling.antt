@@ -51,6 +51,9 @@ module _ {kept : List ℕ} {n i : ℕ} {ys : List ℕ} {f : Following} (ok : Seg
           (eq-or-lt_of_le from);
     }
 
+-- what a proof of the recursion needs
+pub ruleset one_more = (value_high, filled)
+
 -- ---- the whole table
 pub all_filled : {kept : List ℕ} {n : ℕ} {ys : List ℕ} → n ≡ (head_in kept).size → length ys ≡ n → FilledFrom kept n 0 ys
     → ys ≡ table (longest_way (segment_in kept) (head_in kept).size) (head_in kept).size

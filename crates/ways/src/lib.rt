@@ -4,9 +4,10 @@
 ghost use Rattle.std.specs.Prelude.{◌≡◌, ◌≤◌, length};
 ghost use Rattle.laws.specs.Lists.{table};
 ghost use Rattle.format.specs.Words.{head_in, segment_in};
-ghost use Rattle.format.proofs.Accepted.{SegmentsKept};
 ghost use Rattle.emptying.specs.LongestWay.{longest_way};
 ghost use Rattle.ways.specs.Filled.{way_in, FilledFrom};
+
+use network_words::kept::Judged;
 
 // The way out of number k, by a table that has that of segment k − 1; 0 off the road.
 #[tactic(auto, unfolding(crate::specs::Filled::way_in))]
@@ -19,14 +20,14 @@ fn way_at(ways: &[u64], k: u64) -> u64
 
 // Fills the table from segment i of n on, the last first: each number is taken from those of the segments that follow. It is a recursion,
 // and no loop, since the definition is one (docs/DECISIONS.md): n minus the segment number falls.
-fn fill_from(kept: &[u64], n: usize, i: usize, ways: &mut [u64])
-    requires segments_kept { SegmentsKept kept.now (head_in kept.now) }
-    requires n_value { (n ≡ (head_in kept.now).size) × (length ways.old ≡ n) × (i ≤ n) }
-    ensures { FilledFrom kept.now n i ways.new }
+#[tactic(auto, using(crate::proofs::Filling::one_more))]
+fn fill_from(judged: &Judged<'_>, n: usize, i: usize, ways: &mut [u64])
+    requires { (n ≡ (head_in judged.now.net.words.now).size) × (length ways.old ≡ n) × (i ≤ n) }
+    ensures { FilledFrom judged.now.net.words.now n i ways.new }
 {
     if i < n {
-        fill_from(kept, n, i + 1, ways);
-        let f = network_words::following_in(kept, i);
+        fill_from(judged, n, i + 1, ways);
+        let f = judged.net.following(i);
         let first = way_at(ways, f.first);
         let second = way_at(ways, f.second);
         ways[i] = 1 + first.max(second);
@@ -35,11 +36,11 @@ fn fill_from(kept: &[u64], n: usize, i: usize, ways: &mut [u64])
 
 // Of each segment of a judged network the number of segments on its longest way out, itself included, into as many words as there are
 // segments.
-pub fn longest_ways(kept: &[u64], ways: &mut [u64])
-    requires segments_kept { SegmentsKept kept.now (head_in kept.now) }
-    requires ways_len { length ways.old ≡ (head_in kept.now).size }
-    ensures { ways.new ≡ table (longest_way (segment_in kept.now) (head_in kept.now).size) (head_in kept.now).size }
+#[tactic(auto, using(crate::proofs::Filling::all_filled))]
+pub fn longest_ways(judged: &Judged<'_>, ways: &mut [u64])
+    requires { length ways.old ≡ (head_in judged.now.net.words.now).size }
+    ensures { ways.new ≡ table (longest_way (segment_in judged.now.net.words.now) (head_in judged.now.net.words.now).size) (head_in judged.now.net.words.now).size }
 {
     let n = ways.len();
-    fill_from(kept, n, 0, ways);
+    fill_from(judged, n, 0, ways);
 }

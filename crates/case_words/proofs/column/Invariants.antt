@@ -1,8 +1,11 @@
--- The figure's sum over the first i states.
-use Rattle.std.proofs.Common.{◌≡◌, ◌*◌, ◌≤◌}
-use Rattle.laws.specs.Sums.{sum_of}
+-- The figure's sum over the states so far, and which are still to come.
+use Rattle.std.proofs.Common.{length}
+use Rattle.std.specs.Slice.Iter.{chunks_exact_rest, chunks_exact_size}
+use Rattle.laws.proofs.Sums.{Summed}
 use Rattle.case_words.specs.Sums.{figure_at}
+use Rattle.case_words.proofs.Chunks.{Chunked}
 use Rattle.case_words.proofs.column.Given as goal
 
-abbrev pub invariant-loop-i : goal.invariant-loop-i
-invariant-loop-i l = (l.sum ≡ sum_of (figure_at l.words l.at l.o) l.i) × (l.sum ≤ 1000000000000 * l.i)
+abbrev pub invariant-loop-w : goal.invariant-loop-w
+invariant-loop-w l = Summed (figure_at l.words l.at l.o) 1000000000000 (length l.yielded) l.sum
+    × Chunked l.words l.at l.n (length l.yielded) (chunks_exact_rest l.w-iterator) (chunks_exact_size l.w-iterator)

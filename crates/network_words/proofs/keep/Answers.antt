@@ -1,7 +1,10 @@
 -- Zeros, then the head, the entries and the segments over them, one after the other.
 use Rattle.std.proofs.Common.{◌≡◌, ℕ, List, ◌++◌, drop, replicate, ap, ◌∙◌}
-use Rattle.network_words.proofs.KeepCall.{length_kept, kept_by}
+use Rattle.network_words.proofs.KeepCall.{length_kept, entries_fit, kept_by}
 use Rattle.network_words.proofs.keep.Goals as goal
+
+pub put_entries-requires : goal.put_entries-requires
+put_entries-requires c = entries_fit _ c.put_head.new.words _ c.requires.0 c.head_of-h.ensures
 
 pub returns : goal.returns
 returns c =

@@ -1,4 +1,4 @@
--- The first i records are written.
+-- The first i records are put.
 use Rattle.laws.proofs.Puts.{Filled}
 use Rattle.network_writer.proofs.Writing.{record_bytes_in}
 use Rattle.network_writer.proofs.put_records.Given as goal

@@ -1,4 +1,4 @@
--- The first i segments are written.
+-- The first i segments are put.
 use Rattle.laws.proofs.Puts.{Filled}
 use Rattle.format.specs.File.{segment_on}
 use Rattle.format.specs.Words.{segment_words}

@@ -5,4 +5,4 @@ use Rattle.metanet.proofs.InWords.{arrival_number_in}
 use Rattle.refusal.proofs.arrivals.check_arrivals.Given as goal
 
 abbrev pub invariant-loop-i : goal.invariant-loop-i
-invariant-loop-i l = first_of (arrival_number_in l.net l.arrivals) l.i ≡ 0
+invariant-loop-i l = first_of (arrival_number_in l.net.words.now l.arrivals) l.i ≡ 0

@@ -25,9 +25,9 @@ pub returns : goal.returns
 returns c =
     let s = c.args.self.now in
     let ok = s.segment_ok in
-    let len = past_length s.net.now s.own.curve s.own.critical s.own.jam ok.critical_high ok.jam_high ok.curve_high s.long in
-    let is = past_is s.net.now s.own.curve s.own.critical s.own.jam ok.critical_high ok.jam_high ok.curve_high s.long in
-    let fall = past_fall (entry_in s.net.now s.own.curve) s.own.critical s.own.jam _ len is c.args.y s.curve_within ok.jam_high in
+    let len = past_length s.net.words.now s.own.curve s.own.critical s.own.jam ok.critical_high ok.jam_high ok.curve_high s.net.long in
+    let is = past_is s.net.words.now s.own.curve s.own.critical s.own.jam ok.critical_high ok.jam_high ok.curve_high s.net.long in
+    let fall = past_fall (entry_in s.net.words.now s.own.curve) s.own.critical s.own.jam _ len is c.args.y s.curve_within ok.jam_high in
     let point = IsPartitionPoint-from_clause (λ x. leb c.args.y x) _ _ c.partition_point.ensures.partitioned fall (λ a r f k. search (rules, tests)) in
-    let found = past_found (entry_in s.net.now s.own.curve) s.own.critical s.own.jam _ len is c.args.y _ (omega (arith, ok.critical_high)) c.requires c.partition_point.ensures.bound point in
+    let found = past_found (entry_in s.net.words.now s.own.curve) s.own.critical s.own.jam _ len is c.args.y _ (omega (arith, ok.critical_high)) c.requires c.partition_point.ensures.bound point in
     (found, omega (arith, ok.jam_high, ok.critical_high, c.partition_point.ensures.bound, len))

@@ -1,20 +1,19 @@
 use Rattle.std.proofs.Common.{◌*◌, ◌<◌, ◌≤◌, mul-le-mul, arith, le-ltb, lt-ltb}
 use Rattle.format.specs.Words.{entry_in}
-use Rattle.format.proofs.Rows.{entry_high}
 use Rattle.metanet.specs.Flow.{speed_bound}
 use Rattle.segment.proofs.site.Site.speed_bound.Goals.{After-limiting_density-g}
 use Rattle.segment.proofs.site.Site.speed_bound.Goals as goal
 
 -- y is below the entry at C
-below : (c : After-limiting_density-g) → (let s = c.args.self.now in c.args.y < entry_in s.net.now s.own.curve s.own.critical)
-below c = omega (arith, c.if-y-entry.true, c.entry.ensures)
+below : (c : After-limiting_density-g) → (let s = c.args.self.now in c.args.y < entry_in s.net.words.now s.own.curve s.own.critical)
+below c = omega (arith, c.if-y-entry.true, c.entry.ensures.0)
 
 -- H × y, H × y × g, and that × T
 products : (c : After-limiting_density-g)
     → (let s = c.args.self.now in let y = c.args.y in let g = c.limiting_density-g.result in
     (s.own.lanes * y ≤ 1600000) × (s.own.lanes * y * g ≤ 320000000) × (s.own.lanes * y * g * s.head.step ≤ 19200000000))
 products c =
-    let slow : c.args.y ≤ 200000 = omega (arith, below c, entry_high _ c.args.self.now.curve_within c.args.self.now.own.critical (omega (arith, c.args.self.now.segment_ok.critical_high, c.args.self.now.segment_ok.jam_high))) in
+    let slow : c.args.y ≤ 200000 = omega (arith, below c, c.entry.ensures.0, c.entry.ensures.1) in
     let one = mul-le-mul {n₂ = 8} {m₂ = 200000} c.args.self.now.segment_ok.lanes_high slow in
     let two = mul-le-mul {n₂ = 1600000} {m₂ = 200} one c.limiting_density-g.ensures.1 in
     (one, two, mul-le-mul {n₂ = 320000000} {m₂ = 60} two c.args.self.now.head_within.step_high)
@@ -35,4 +34,4 @@ returns-then-y-entry c = simp (lt-ltb _ _ (below (goal.at.returns-then-y-entry c
 pub returns : goal.returns
 unfolding speed_bound
 returns c = let s = c.args.self.now in
-    simp (le-ltb c.args.y (entry_in s.net.now s.own.curve s.own.critical) (omega (arith, c.if-y-entry.false, c.entry.ensures)))
+    simp (le-ltb c.args.y (entry_in s.net.words.now s.own.curve s.own.critical) (omega (arith, c.if-y-entry.false, c.entry.ensures.0)))

@@ -1,8 +1,0 @@
--- The first i speeds are written.
-use Rattle.std.proofs.Common.{◌≡◌, ◌++◌, get_or, drop}
-use Rattle.laws.specs.Lists.{table}
-use Rattle.laws.specs.Real.{real}
-use Rattle.begin.proofs.words.put_speeds.Given as goal
-
-abbrev pub invariant-loop-i : goal.invariant-loop-i
-invariant-loop-i l = l.speeds ≡ table (λ k. real (get_or l.initial' k 0)) l.i ++ drop l.i l.initial.speeds

@@ -81,6 +81,7 @@ fn state(random: &mut Random, network: &Network, place: usize) -> SegmentState {
         rate: u64::from(segment.most_released),
         collected: Collected::default(),
         last_outflow: random.edge(0, MOST_MV),
+        remainder: random.edge(0, segment.remainder_end() - 1),
         last_release: random.edge(0, MOST_MV),
     };
     match network.origin(place) {

@@ -1,9 +1,10 @@
 //! Which numbers the C functions answered in this run, how runs ended, where
 //! files were refused, what steps met at a mainstream origin, at ramps that
-//! jam, at ALINEA ramps, and where freeways part and meet, what calls about a
-//! ramp met, and what quiet steps did.
+//! jam, at ALINEA ramps, of remainders, and where freeways part and meet, what
+//! calls about a ramp met, and what quiet steps did.
 
 mod alinea;
+mod fractions;
 mod jams;
 mod junctions;
 mod lines;
@@ -67,6 +68,7 @@ pub fn note_step(network: &Network, case: &Case, arrivals: &[u32]) {
     mainstream::note(network, case, arrivals);
     jams::note(network, case);
     alinea::note(network, case);
+    fractions::note(network, case);
     junctions::note(network, case, arrivals);
 }
 
@@ -92,6 +94,7 @@ pub fn say() -> bool {
     complete &= mainstream::say();
     complete &= jams::say();
     complete &= alinea::say();
+    complete &= fractions::say();
     complete &= ramps::say();
     complete &= quiet::say();
     junctions::say() && complete

@@ -30,6 +30,7 @@ pub const LAST_OUTFLOW: usize = 10;
 pub const LAST_RELEASE: usize = 11;
 pub const SUM: usize = 12;
 pub const SUM_STEPS: usize = 13;
+pub const REMAINDER: usize = 14;
 /// Totals: their places after the last state.
 pub const STEPS: usize = 0;
 pub const ARRIVALS: usize = 1;
@@ -52,6 +53,7 @@ const STATE_NAMES: &[&str] = &[
     "last release",
     "S",
     "m",
+    "b",
 ];
 const TOTAL_NAMES: &[&str] = &["steps", "arrivals", "exits", "time"];
 
@@ -152,5 +154,6 @@ fn state_words(state: &SegmentState) -> [u64; STATE_NAMES.len()] {
         state.last_release,
         sum,
         steps,
+        state.remainder,
     ]
 }

@@ -32,6 +32,8 @@ pub struct SegmentState {
     pub collected: Collected,
     /// Outflow of the last step in mv, exit part included.
     pub last_outflow: u64,
+    /// b: what its division left, below 3600 × L; carried into the next step.
+    pub remainder: u64,
     /// Release of the last step, in mv.
     pub last_release: u64,
 }
@@ -79,8 +81,8 @@ pub struct Collected {
 }
 
 impl Case {
-    /// The case that a study starts with: ramps open, signs dark, flows and
-    /// totals 0. Counts and queues in mv, speeds in whole m/h.
+    /// The case that a study starts with: ramps open, signs dark, flows,
+    /// remainders and totals 0. Counts and queues in mv, speeds in whole m/h.
     pub fn start(network: &Network, counts: &[u64], speeds: &[u64], queues: &[u64]) -> Case {
         let start = |(place, segment): (usize, &Segment)| SegmentState {
             count: counts[place],
@@ -91,6 +93,7 @@ impl Case {
             rate: u64::from(segment.most_released),
             collected: Collected::default(),
             last_outflow: 0,
+            remainder: 0,
             last_release: 0,
         };
         Case {

@@ -105,6 +105,11 @@ impl Segment {
     pub fn lane_metres(&self) -> u64 {
         u64::from(self.length) * u64::from(self.lanes)
     }
+
+    /// 3600 × L, which every remainder b is below.
+    pub fn remainder_end(&self) -> u64 {
+        3_600 * u64::from(self.length)
+    }
 }
 
 impl Followers {

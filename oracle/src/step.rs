@@ -69,6 +69,7 @@ fn settle(state: &mut SegmentState, flows: &Flows, arrival: u64, passed_on: u64)
     state.queue = state.queue + arrival - flows.release;
     state.count = state.count + flows.release + passed_on - flows.outflow;
     state.last_outflow = flows.outflow;
+    state.remainder = flows.remainder;
     state.last_release = flows.release;
 }
 

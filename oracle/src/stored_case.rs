@@ -50,8 +50,8 @@ pub(crate) fn sound(network: &Network, words: &[u64], speeds: &[f64]) -> bool {
     present.is_some_and(|present| totals_sound(totals(words), present))
 }
 
-/// Puts what a step changes: counts, queues, rates, last flows, S and m, speeds
-/// and totals.
+/// Puts what a step changes: counts, queues, rates, last flows, S, m and b,
+/// speeds and totals.
 pub(crate) fn put_step(case: &Case, words: &mut [u64], speeds: &mut [f64]) {
     for (place, state) in case.segments.iter().enumerate() {
         state::put_step(state, &mut words[STATE_WORDS * place..]);

@@ -26,7 +26,7 @@ use Rattle.metanet.specs.Words.{put_case, put_case_speeds}
 use Rattle.metanet.specs.Start.{start_state, start_case}
 use Rattle.metanet.proofs.InWords.{state_words}
 use Rattle.metanet.proofs.Written.{case_begun}
-use Rattle.book.specs.Arrangement.{case_word, start_marks}
+use Rattle.book.specs.Arrangement.{case_word, start_marks, arrangement}
 use Rattle.book.specs.Calls.{start}
 use Rattle.book.specs.Question.{accepted}
 use Rattle.book.specs.Perform.{lent, refusal_at, Performs, answer_of, start_words, stored}
@@ -46,15 +46,15 @@ zeros_are l {ys} at w {p} {k} place is room e =
 
 -- zeros in 15 places, and after them the arrangement number
 pub marks_are : (words zeros : List ℕ) → 2576 ≤ length words → zeros ≡ replicate (length (part 2560 15 words)) 0
-    → set (put_mid 2560 15 words zeros) 2575 3 ≡ put_part 2560 16 start_marks words
+    → set (put_mid 2560 15 words zeros) 2575 arrangement ≡ put_part 2560 16 start_marks words
 unfolding start_marks
 marks_are words zeros room e =
     let front : length (take 2560 words ++ replicate 15 0) ≡ 2575 = simp (length-append, length-take) (omega arith) in
-    ap (λ (l : List ℕ). set l 2575 3) (zeros_are words 2560 15 refl refl (omega arith) e)
-    ∙ ap (λ (l : List ℕ). set (take 2560 words ++ (replicate 15 0 ++ l)) 2575 3) (drop-cons words 2575 0 (omega arith))
-    ∙ ap (λ (l : List ℕ). set l 2575 3) (sym (append_assoc (take 2560 words) (replicate 15 0) _))
-    ∙ set_at (take 2560 words ++ replicate 15 0) (get_or words 2575 0) (drop 2576 words) 3 2575 front
-    ∙ append_assoc (take 2560 words) (replicate 15 0) (3 ∷ drop 2576 words)
+    ap (λ (l : List ℕ). set l 2575 arrangement) (zeros_are words 2560 15 refl refl (omega arith) e)
+    ∙ ap (λ (l : List ℕ). set (take 2560 words ++ (replicate 15 0 ++ l)) 2575 arrangement) (drop-cons words 2575 0 (omega arith))
+    ∙ ap (λ (l : List ℕ). set l 2575 arrangement) (sym (append_assoc (take 2560 words) (replicate 15 0) _))
+    ∙ set_at (take 2560 words ++ replicate 15 0) (get_or words 2575 0) (drop 2576 words) arrangement 2575 front
+    ∙ append_assoc (take 2560 words) (replicate 15 0) (arrangement ∷ drop 2576 words)
 
 length_open : (mv queue most : ℕ) → length (open_words mv queue most) ≡ 16
 unfolding open_words

@@ -25,7 +25,7 @@ marks_length = 16
 
 -- the number of this arrangement: another one is another number
 abbrev pub arrangement : ℕ
-arrangement = 3
+arrangement = 4
 
 -- those words at the start of a study: run count 0, slots empty, the free words 0
 unfoldable pub start_marks : List ℕ

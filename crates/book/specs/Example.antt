@@ -40,7 +40,7 @@ answered =
     ∷ (single (question (of_case 0 totals)), figures (2 ∷ 10556 ∷ 0 ∷ 4000 ∷ 18444 ∷ 440000 ∷ []))
     ∷ (single (question (of_case 1 totals)), figures (0 ∷ 20000 ∷ 5000 ∷ 0 ∷ 0 ∷ 0 ∷ []))
     ∷ (run (survey_of 1 (4000 ∷ 1000001 ∷ 0 ∷ [])), figures (1 ∷ 15 ∷ []))
-    ∷ (single (question (of_case 0 totals)), figures (3 ∷ 8839 ∷ 0 ∷ 8000 ∷ 24161 ∷ 545560 ∷ []))
+    ∷ (single (question (of_case 0 totals)), figures (3 ∷ 8838 ∷ 0 ∷ 8000 ∷ 24162 ∷ 545560 ∷ []))
     ∷ (run (survey_of 2 (0 ∷ 0 ∷ [])), refused 26)
     ∷ (run [], refused 25)
     ∷ (single (drop_slot 1), accepted)

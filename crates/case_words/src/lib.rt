@@ -19,7 +19,7 @@ pub const RUN_WORD: usize = network_words::NETWORK_WORDS;
 // The word of the arrangement number, and that number.
 pub const ARRANGEMENT_WORD: usize = RUN_WORD + 15;
 
-pub const ARRANGEMENT: u64 = 3;
+pub const ARRANGEMENT: u64 = 4;
 
 // The first word of the live case.
 pub const FIRST_CASE: usize = RUN_WORD + 16;
@@ -105,6 +105,7 @@ impl StateWords<'_> {
     {
         Flows {
             outflow: self.words[10],
+            remainder: self.words[14],
             release: self.words[11],
         }
     }

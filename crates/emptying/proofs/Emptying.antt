@@ -2,15 +2,13 @@
 use Prim.Native.Nat.{ℕ, zero, suc, ◌+◌, ◌-◌, ◌*◌, ◌≤◌, ◌<◌}
 use native.Mathlib.Nat.{add-mul}
 use native.Mathlib.Omega.{arith}
-use mathlib.Core.Path.{◌≡◌, refl, sym, ap, subst}
-use mathlib.Core.Bool.{Bool, true, false, cond, ◌||◌, ◌&&◌}
+use mathlib.Core.Path.{◌≡◌, refl, ap}
+use mathlib.Core.Bool.{Bool, true, false, cond, ◌||◌}
 use mathlib.Core.List.{List, [], ◌∷◌}
-use lib.Dec.{eqb, ltb}
-use lib.ListN.{get_or, length, set}
-use borrow.Author.Tests.{eqb-true, leb-true}
+use lib.ListN.{get_or}
+use borrow.Author.Tests.{leb-true}
 use Rattle.laws.specs.First.{some_below}
 use Rattle.laws.specs.Sums.{sum_of}
-use Rattle.laws.proofs.Lists.{get_or-set_test}
 use Rattle.laws.proofs.Sums.{sum_ext, sum_term}
 use Rattle.format.specs.Network.{Network, entry_of, segment_of, rows_number}
 use Rattle.format.proofs.Accepted.{RowsWithin}
@@ -18,11 +16,12 @@ use Rattle.format.proofs.Rows.{rows_within}
 use Rattle.metanet.specs.declared.SignSetting.{SignSetting}
 use Rattle.metanet.specs.declared.Ramp.{Ramp}
 use Rattle.metanet.specs.declared.SegmentState.{SegmentState}
-use Rattle.metanet.specs.Case.{Case, no_state, state_of}
+use Rattle.metanet.specs.Case.{Case, state_of}
 use Rattle.metanet.specs.Step.{free_speed, outflow_now, new_state, step_state, step_on, step_case}
 use Rattle.metanet.specs.Change.{sign_for, ramp_for, with_state}
 use Rattle.metanet.specs.Line.{signed, metered, stepped, Line, change, handed_in, arrivals_of}
 use Rattle.metanet.proofs.Ready.{SegmentOk, Flowing}
+use Rattle.metanet.proofs.CaseParts.{reset, set_keeps}
 use Rattle.metanet.proofs.SegmentLaws.{segment_ok, outflow_at_least}
 use Rattle.metanet.proofs.Balance.{new, released_waits, new_is, new_flowing, moves}
 use Rattle.metanet.proofs.StepSound.{states_ok}
@@ -40,15 +39,6 @@ some_adds k test f (suc n) h = go (some_below test n) (test n) refl (some_adds k
     go true t e l = omega (arith, l)
     go false true e l = omega (arith, h n (omega arith) e)
     go false false e l = omega (arith, l)
-
--- the states with r at place k, which may be past them: what passes from the state that was there to r stays true of every state
-set_keeps : (P : SegmentState → Type 0) (states : List SegmentState) (k j : ℕ) (r : SegmentState) → (P (state_of states k) → P r) → P (state_of states j) → P (state_of (set states k r) j)
-set_keeps P states k j r same here = rw (get_or-set_test states k j r no_state) (go (eqb k j) (ltb k (length states)) refl)
-  where
-    go : (s t : Bool) → eqb k j ≡ s → P (cond (s && t) r (state_of states j))
-    go true true e = same (subst (λ (i : ℕ). P (state_of states i)) (sym (eqb-true k j e)) here)
-    go true false e = here
-    go false t e = here
 
 module _ (w : Network) (z : rows_number w.head (entry_of w) (segment_of w) ≡ 0) where
   abbrev n : ℕ
@@ -77,21 +67,21 @@ module _ (w : Network) (z : rows_number w.head (entry_of w) (segment_of w) ≡ 0
     abbrev old : SegmentState
     old = state_of c.states k
 
-    abbrev reset : SegmentState
-    reset = record { count = old.count; queue = old.queue; sign = sign; ramp = ramp; flows = old.flows; speed = old.speed }
+    abbrev changed : SegmentState
+    changed = reset old sign ramp
 
-    reset_calm : Calm c → Calm (with_state c k reset)
+    reset_calm : Calm c → Calm (with_state c k changed)
     reset_calm a =
         record {
-          flowing = λ i l. set_keeps (λ r. Flowing (segment_of w i) (F i) r) c.states k i reset (λ f. record { speed = f.speed }) (a.flowing i l);
-          empty = λ i l. set_keeps (λ r. r.queue ≡ 0) c.states k i reset (λ e. e) (a.empty i l);
+          flowing = λ i l. set_keeps (λ r. Flowing (segment_of w i) (F i) r) c.states k i changed (λ f. record { speed = f.speed; remainder = f.remainder }) (a.flowing i l);
+          empty = λ i l. set_keeps (λ r. r.queue ≡ 0) c.states k i changed (λ e. e) (a.empty i l);
         }
 
-    reset_same : p_of w (with_state c k reset) ≡ p_of w c
+    reset_same : p_of w (with_state c k changed) ≡ p_of w c
     unfolding p_of
     reset_same =
         sum_ext _ (λ i. (state_of c.states i).count * way i) n
-        (λ i l. set_keeps (λ r. r.count * way i ≡ (state_of c.states i).count * way i) c.states k i reset (λ e. e) refl)
+        (λ i l. set_keeps (λ r. r.count * way i ≡ (state_of c.states i).count * way i) c.states k i changed (λ e. e) refl)
 
   -- ---- a step
 

@@ -15,7 +15,7 @@ use Rattle.metanet.specs.Speed.{new_speed}
 use Rattle.metanet.specs.Step.{new_state, release_now, outflow_now, through, inflow, free_speed, first_way, second_way, rest_at, first_at, second_at, neighbours, step_state, step_states, exit_now, exits_now, vehicles_in}
 use Rattle.metanet.specs.Sound.{mv_most}
 use Rattle.metanet.proofs.Ready.{SegmentOk, Flowing, StateOk}
-use Rattle.metanet.proofs.SegmentLaws.{keep_within, release_waits, rate_high, release_at_most_rate, outflow_at_most_count, exit_le}
+use Rattle.metanet.proofs.SegmentLaws.{keep_within, release_waits, rate_high, release_at_most_rate, outflow_at_most_count, remainder_low, exit_le}
 use Rattle.metanet.proofs.Sending.{Moves, thousandths, queues-balance}
 use Rattle.metanet.specs.declared.Flows.{Flows}
 
@@ -48,10 +48,12 @@ module _ (h : Head) (entry : ℕ → ℕ → ℕ) (segment : ℕ → Segment) (s
   released_waits i = release_waits (segment i) (state_of states i) t (get_or ds i 0) (neighbours h entry segment states i).bound
 
   module _ (ok : (i : ℕ) → i < h.size → SegmentOk h (segment i) (free_speed h entry segment i)) where
-    -- new speeds lie in 1,000..F
+    -- new speeds lie in 1,000..F, and new remainders below 3600 × L
     pub new_flowing : (i : ℕ) → i < h.size → Flowing (segment i) (free_speed h entry segment i) (state_of (step_states h entry segment states t ds) i)
     unfolding step_state new_state new_speed
-    new_flowing i l = rw (new_is i l) (record { speed = keep_within (free_speed h entry segment i) (ok i l).slow (ok i l).fast _ })
+    new_flowing i l =
+        rw (new_is i l)
+        (record { speed = keep_within (free_speed h entry segment i) (ok i l).slow (ok i l).fast _; remainder = remainder_low (ok i l) (state_of states i) })
 
     -- a step moves vehicles: outflow is the exit part and what goes on to the two numbers
     pub moves : ((i : ℕ) → i < h.size → Flowing (segment i) (free_speed h entry segment i) (state_of states i))

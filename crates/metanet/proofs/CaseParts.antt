@@ -1,19 +1,37 @@
 -- A case is what its own words and speeds say, wherever they stand; and one state put into its words is that state of the case.
 use Prim.Native.Nat.{ℕ, ◌+◌, ◌*◌, ◌≤◌, ◌<◌}
-use mathlib.Core.Path.{◌≡◌, sym, ap, ◌∙◌}
+use mathlib.Core.Path.{◌≡◌, refl, sym, ap, subst, ◌∙◌}
+use mathlib.Core.Bool.{Bool, true, false, cond, ◌&&◌}
 use mathlib.Core.List.{List}
 use native.Mathlib.Nat.{add-zero, zero-add, mul-le-mul_left, mul-suc}
 use native.Mathlib.Decide.{dec_lt}
 use native.Mathlib.Omega.{arith}
+use lib.Dec.{eqb, ltb}
 use lib.ListN.{length, drop, get_or, set}
 use lib.Ieee.{Float, nan}
+use borrow.Author.Tests.{eqb-true}
 use Rattle.laws.specs.Lists.{table, part, put_part}
-use Rattle.laws.proofs.Lists.{table_ext, table-set, part_at}
+use Rattle.laws.proofs.Lists.{get_or-set_test, table_ext, table-set, part_at}
 use Rattle.laws.proofs.Outside.{SameOutside, part_part, part_before, part_after, get_or-after, put_same, part_put}
+use Rattle.metanet.specs.declared.SignSetting.{SignSetting}
+use Rattle.metanet.specs.declared.Ramp.{Ramp}
 use Rattle.metanet.specs.declared.SegmentState.{SegmentState}
-use Rattle.metanet.specs.Case.{Case}
+use Rattle.metanet.specs.Case.{Case, no_state, state_of}
 use Rattle.metanet.specs.Words.{state_in, state_at, states_in, case_in}
 use Rattle.metanet.proofs.StateWords.{state-take}
+
+-- the states with r at place k, which may be past them: what passes from the state that was there to r stays true of every state
+pub set_keeps : (P : SegmentState → Type 0) (states : List SegmentState) (k j : ℕ) (r : SegmentState) → (P (state_of states k) → P r) → P (state_of states j) → P (state_of (set states k r) j)
+set_keeps P states k j r same here = rw (get_or-set_test states k j r no_state) (go (eqb k j) (ltb k (length states)) refl)
+  where
+    go : (s t : Bool) → eqb k j ≡ s → P (cond (s && t) r (state_of states j))
+    go true true e = same (subst (λ (i : ℕ). P (state_of states i)) (sym (eqb-true k j e)) here)
+    go true false e = here
+    go false t e = here
+
+-- what a sign or a meter makes of a state
+abbrev pub reset : SegmentState → SignSetting → Ramp → SegmentState
+reset r sign ramp = record { count = r.count; queue = r.queue; sign = sign; ramp = ramp; flows = r.flows; speed = r.speed }
 
 -- two places with the same 16 words have the same state
 state_same : (words words' : List ℕ) (a b : ℕ) (v : Float) → part a 16 words ≡ part b 16 words' → state_in (drop a words) v ≡ state_in (drop b words') v

@@ -1,9 +1,9 @@
 -- A case is sound where each of its states is and its totals are within their bounds; and the other way for its states.
-use Prim.Native.Nat.{ℕ, ◌≤◌, ◌<◌}
+use Prim.Native.Nat.{ℕ, ◌*◌, ◌≤◌, ◌<◌}
 use mathlib.Core.Path.{◌≡◌, ap, ◌∙◌}
-use mathlib.Core.Bool.{Bool, false, ◌||◌}
+use mathlib.Core.Bool.{Bool, false}
 use mathlib.Core.List.{List, [], ◌∷◌}
-use borrow.Author.Tests.{ltb-false, le-ltb}
+use borrow.Author.Tests.{ltb-false, le-ltb, lt-leb}
 use Rattle.laws.specs.First.{any_of, row, first_of}
 use Rattle.laws.specs.Sums.{sum_of}
 use Rattle.laws.proofs.First.{row_passed, row_skipped, first_zero, first_zero_left, first_of-zero, first_of_all, first_of_ext}
@@ -24,14 +24,18 @@ use Rattle.metanet.proofs.InWords.{mean_number}
 pub record StateSound (m : Bool) (s : Segment) (f : ℕ) (r : SegmentState) : Type 0 where
   pub count : r.count ≤ mv_most
   pub queue : r.queue ≤ mv_most
-  pub flows : flows_bad r.flows ≡ false
+  pub flows : flows_bad s r.flows ≡ false
   pub sign : sign_bad r.sign ≡ false
   pub setting : setting_bad m s.most r.ramp ≡ false
   pub speed : speed_bad f r.speed ≡ false
 
-pub flows_sound : {r : Flows} → FlowsWithin r mv_most → flows_bad r ≡ false
-unfolding flows_bad
-flows_sound {r} a = λ j. le-ltb mv_most r.outflow a.outflow j || le-ltb mv_most r.release a.release j
+pub flows_sound : (s : Segment) {r : Flows} → FlowsWithin r mv_most → r.remainder < 3600 * s.metres → flows_bad s r ≡ false
+unfolding flows_bad any_of
+flows_sound s {r} a small =
+    let outflow = le-ltb mv_most r.outflow a.outflow in
+    let release = le-ltb mv_most r.release a.release in
+    let remainder = lt-leb (3600 * s.metres) r.remainder small in
+    λ j. any_of (outflow j ∷ release j ∷ remainder j ∷ [])
 
 module _ (m : Bool) (s : Segment) (f : ℕ) (r : SegmentState) where
   pub state_says : state_bad m s f r ≡ false → StateSound m s f r

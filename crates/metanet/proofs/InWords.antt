@@ -50,7 +50,7 @@ step_number_in net steps ds = step_number (head_in net) (entry_in net) (segment_
 
 -- how many of them are in use; the others are free
 abbrev pub words_used : ℕ
-words_used = 14
+words_used = 15
 
 -- its parts, put into the words w; of the ramp a step puts R, and S and m where it is ALINEA's
 unfoldable pub put_sign : SignSetting → List ℕ → List ℕ
@@ -68,7 +68,7 @@ unfoldable pub put_rate : Ramp → List ℕ → List ℕ
 put_rate r w = set w 5 r.rate
 
 unfoldable pub put_flows : Flows → List ℕ → List ℕ
-put_flows r w = set (set w 10 r.outflow) 11 r.release
+put_flows r w = set (set (set w 10 r.outflow) 11 r.release) 14 r.remainder
 
 -- the words of a state, the free ones 0
 unfoldable pub state_words : SegmentState → List ℕ

@@ -8,6 +8,7 @@ pub mod Drain
 pub mod Put
 pub mod Entries
 pub mod FlowLaws
+pub mod Fractions
 pub mod Formed
 pub mod Good
 pub mod InWords

@@ -24,14 +24,14 @@ use Rattle.metanet.specs.Case.{Case, no_state, state_of}
 use Rattle.metanet.specs.Speed.{area}
 use Rattle.metanet.specs.Step.{vehicles_in, free_speed, total_of}
 use Rattle.metanet.proofs.Ready.{SegmentOk}
-use Rattle.metanet.specs.Sound.{sign_bad, setting_bad, flows_bad}
+use Rattle.metanet.specs.Sound.{sign_bad, setting_bad}
 use Rattle.metanet.proofs.SegmentLaws.{segment_ok}
 use Rattle.metanet.proofs.Formed.{within_good}
 use Rattle.metanet.specs.Start.{start_state, start_case, start_segment_number, start_number, handed}
 use Rattle.metanet.specs.Line.{case_of, steps_of, arrivals_of, exits_of}
 use Rattle.metanet.proofs.Average.{since_meter, Averaged, averaged_none, average_within}
 use Rattle.metanet.proofs.Good.{GoodNetwork, Good}
-use Rattle.metanet.proofs.CaseSound.{SoundAt, MeanAt, case_sound}
+use Rattle.metanet.proofs.CaseSound.{SoundAt, MeanAt, case_sound, flows_sound}
 use Rattle.metanet.proofs.Lines.{net_within}
 
 module _ (w : Network) (mvs speeds queues : List ℕ) where
@@ -89,7 +89,7 @@ module _ {w : Network} (net : GoodNetwork w) (mvs speeds queues : List ℕ) (z :
   start_le = omega (arith, sum_high (vehicles_in (begun w mvs speeds queues).states) 4200000 w.head.size each-le, (net_within net).head.size_high)
 
   start-sound : (i : ℕ) → i < w.head.size → SoundAt w.head (entry_of w) (segment_of w) (begun w mvs speeds queues).states i
-  unfolding start_state flows_bad sign_bad setting_bad any_of
+  unfolding start_state sign_bad setting_bad any_of
   start-sound i l =
       let a = judged i l in
       let fast = (segments_ok i l).fast in
@@ -99,7 +99,7 @@ module _ {w : Network} (net : GoodNetwork w) (mvs speeds queues : List ℕ) (z :
       (record {
         count = omega (arith, count_le i l);
         queue = omega (arith, a.waiting);
-        flows = refl;
+        flows = flows_sound (segment_of w i) (record { outflow = omega arith; release = omega arith }) (omega (arith, (segments_ok i l).metres_low));
         sign = refl;
         setting = ap not (eq-eqb (segment_of w i).most (segment_of w i).most refl);
         speed = within_good f (real v) (record { low = real-le 1000 v a.slow (omega (arith, a.fast, fast)); high = real-le v f a.fast (omega (arith, fast)) });

@@ -71,6 +71,7 @@ pub record Within (f : ℕ) (v : Float) : Type 0 where
 -- what the outflow rule asks of a state; every step keeps it, of any case
 pub record Flowing (s : Segment) (f : ℕ) (r : SegmentState) : Type 0 where
   pub speed : Within f r.speed
+  pub remainder : r.flows.remainder < 3600 * s.metres
 
 pub record StateOk (s : Segment) (f : ℕ) (r : SegmentState) : Type 0 where
   pub count : r.count ≤ 1000000000000

@@ -1,8 +1,7 @@
 -- Bounds of what a step makes of one segment.
-use Prim.Native.Nat.{ℕ, ◌+◌, ◌*◌, ◌/◌, ◌≤◌, ◌<◌, min, max}
-use native.Mathlib.Nat.{le_trans, le_of_eq, mul_comm, mul_assoc, mul-le-mul_left, mul-le-mul_right, div-le_of_le-mul, le-div_iff_mul-le}
+use Prim.Native.Nat.{ℕ, suc, ◌+◌, ◌*◌, ◌/◌, ◌≤◌, ◌<◌, min, max}
+use native.Mathlib.Nat.{le_trans, le_of_eq, mul_comm, mul_assoc, mul-le-mul_left, mul-le-mul_right, div-le_of_le-mul, le-div_iff_mul-le, div-lt_iff_lt-mul, mod-lt}
 use native.Mathlib.Omega.{arith}
-use mathlib.Core.Path.{sym}
 use mathlib.Core.Bool.{Bool, true, false, cond, ◌&&◌}
 use mathlib.Core.List.{List}
 use lib.Dec.{T, eqb, lit<, lit≤}
@@ -18,7 +17,7 @@ use Rattle.metanet.specs.declared.SegmentState.{SegmentState}
 use Rattle.metanet.specs.Case.{open_kind}
 use Rattle.metanet.specs.Flow.{exit_part, alinea_rate, moved, rate_change}
 use Rattle.metanet.specs.Speed.{area, keep}
-use Rattle.metanet.specs.Step.{rate_of, moves, rate_now, ramp_now, release_now, outflow_now, through}
+use Rattle.metanet.specs.Step.{rate_of, moves, rate_now, ramp_now, release_now, outflow_now, remainder_now, through}
 use Rattle.metanet.proofs.Ready.{AreaOk, SegmentOk, RampOk, Within, Flowing}
 
 -- ---- what acceptance of the network says of segment i
@@ -79,11 +78,11 @@ release_at_most_rate s r t d bound = omega arith
 pub exit_le : (out share : ℕ) → share ≤ 1000 → exit_part out share ≤ out
 exit_le out share h = div-le_of_le-mul 1000 (le_trans (mul-le-mul_left out h) (le_of_eq (mul_comm out 1000)))
 
-outflow_le : (n s f t l : ℕ) → s ≤ f → f * t ≤ 3600 * l → n * s * t / (3600 * l) ≤ n
-outflow_le n s f t l h k =
-    div-le_of_le-mul (3600 * l)
-    (le_trans (le_of_eq (mul_assoc n s t))
-    (le_trans (mul-le-mul_left n (le_trans (mul-le-mul_right t h) k)) (le_of_eq (mul_comm n (3600 * l)))))
+outflow_le : (n s f t l b : ℕ) → s ≤ f → f * t ≤ 3600 * l → b < 3600 * l → (n * s * t + b) / (3600 * l) ≤ n
+outflow_le n s f t l b h k small =
+    let most : n * (s * t) ≤ n * (3600 * l) = mul-le-mul_left n (le_trans (mul-le-mul_right t h) k) in
+    let below : n * s * t + b < suc n * (3600 * l) = omega (arith, mul_assoc n s t, most, small) in
+    omega (arith, (div-lt_iff_lt-mul {k = 3600 * l} {x = n * s * t + b} {y = suc n} (omega (arith, small))).1 below)
 
 module _ {h : Head} {s : Segment} {f : ℕ} (S : SegmentOk h s f) where
   module _ {v : Float} (in-range : Within f v) where
@@ -96,10 +95,15 @@ module _ {h : Head} {s : Segment} {f : ℕ} (S : SegmentOk h s f) where
     pub whole_speed_high : to_unsigned 64 v ≤ f
     whole_speed_high = whole_high 1000 f v (lit< tt) S.slow (omega (arith, S.fast)) in-range.low in-range.high
 
+  -- what the division leaves is below its divisor
+  pub remainder_low : (r : SegmentState) → remainder_now h s r < 3600 * s.metres
+  unfolding remainder_now
+  remainder_low r = mod-lt _ (omega (arith, S.metres_low))
+
   module _ {r : SegmentState} (R : Flowing s f r) where
     pub outflow_at_most_count : outflow_now h s r ≤ r.count
     unfolding outflow_now
-    outflow_at_most_count = outflow_le r.count (to_unsigned 64 r.speed) f h.step s.metres (whole_speed_high R.speed) S.reach
+    outflow_at_most_count = outflow_le r.count (to_unsigned 64 r.speed) f h.step s.metres r.flows.remainder (whole_speed_high R.speed) S.reach R.remainder
 
     -- at N × 1000 × T ≥ K × 3600 × L a segment lets out at least K
     pub outflow_at_least : (k : ℕ) → k * 3600 * s.metres ≤ r.count * 1000 * h.step → k ≤ outflow_now h s r
@@ -107,7 +111,7 @@ module _ {h : Head} {s : Segment} {f : ℕ} (S : SegmentOk h s f) where
     outflow_at_least k l =
         let long : 0 < 3600 * s.metres = omega (arith, S.metres_low) in
         (le-div_iff_mul-le long).1
-        (le_trans (le_of_eq (sym (mul_assoc k 3600 s.metres))) (le_trans l (mul-le-mul_right h.step (mul-le-mul_left r.count (whole_speed_low R.speed)))))
+        (omega (arith, mul_assoc k 3600 s.metres, l, mul-le-mul_right h.step (mul-le-mul_left r.count (whole_speed_low R.speed))))
 
     pub through_at_most_count : through h s r ≤ r.count
     unfolding through

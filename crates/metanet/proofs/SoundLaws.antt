@@ -9,7 +9,7 @@ use lib.Seq.{get_or-drop}
 use lib.Dec.{T, ltb, eqb}
 use lib.ListN.{length, get_or}
 use lib.Ieee.{Float, le}
-use borrow.Author.Tests.{ltb-false, eqb-true, not-false}
+use borrow.Author.Tests.{ltb-false, leb-false, eqb-true, not-false}
 use Rattle.laws.specs.First.{outside, row, first, first_of}
 use Rattle.laws.specs.Real.{real}
 use Rattle.laws.specs.Sums.{sum_of}
@@ -28,7 +28,7 @@ use Rattle.metanet.specs.Words.{net_of, state_in, state_at, states_in, case_in}
 use Rattle.metanet.proofs.InWords.{mean_number, mean_number_in}
 use Rattle.metanet.proofs.Settings.{by_kind}
 use Rattle.metanet.proofs.Ready.{SignOk, RampOk, StateOk, CaseAt, Ready, TotalsOk, vehicles_at}
-use Rattle.metanet.specs.Sound.{sum_most, summed_most, sign_bad, has_alinea, open_bad, fixed_bad, alinea_bad, setting_bad, average_bad, speed_bad, state_bad, totals_bad, state_number, case_number, arrival_number, step_number}
+use Rattle.metanet.specs.Sound.{sum_most, summed_most, sign_bad, has_alinea, open_bad, fixed_bad, alinea_bad, setting_bad, average_bad, flows_bad, speed_bad, state_bad, totals_bad, state_number, case_number, arrival_number, step_number}
 
 pub state_read : (words : List ℕ) (speeds : List Float) (at from n i : ℕ) → i < n → state_of (states_in words speeds at from n) i ≡ state_at words speeds at from i
 unfolding states_in
@@ -118,9 +118,10 @@ module _ (q : ℕ) (r : Ramp) (mean : average_bad r.sum r.summed ≡ false) wher
       by_kind m q r z (λ e f. open_ok (λ o. omega (arith, e, o)) f) (λ may e f. fixed_ok (λ o. omega (arith, e, o)) f) (λ may e f. alinea_ok f)
 
 pub state_ok : (s : Segment) (r : SegmentState) (m : Bool) (f : ℕ) → state_bad m s f r ≡ false → StateOk s f r
-unfolding state_bad speed_bad
+unfolding state_bad flows_bad speed_bad
 state_ok s r m f z =
     let no = any_of_false _ z in
+    let flows = any_of_false _ (no 2) in
     let speed = not-false _ (no 4) in
     record {
       count = ltb-false _ _ (no 0);
@@ -132,6 +133,7 @@ state_ok s r m f z =
           low = truth (and_left (le (real 1000) r.speed) (le r.speed (real f)) speed);
           high = truth (and_right (le (real 1000) r.speed) (le r.speed (real f)) speed);
         };
+        remainder = leb-false _ _ (flows 2);
       };
     }
 

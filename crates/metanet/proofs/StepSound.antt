@@ -1,6 +1,6 @@
 -- A step of any sound case: its states are sound but for S and m where all mv after it are within their bound, and so it is judged by S, m
 -- and its totals alone.
-use Prim.Native.Nat.{ℕ, zero, suc, ◌+◌, ◌≤◌, ◌<◌}
+use Prim.Native.Nat.{ℕ, ◌+◌, ◌≤◌, ◌<◌}
 use mathlib.Core.Path.{◌≡◌, refl, sym, ap, ◌∙◌}
 use mathlib.Core.Bool.{Bool, true, false}
 use mathlib.Core.List.{List}
@@ -108,13 +108,14 @@ module _ {h : Head} {entry : ℕ → ℕ → ℕ} {segment : ℕ → Segment} (w
       let is = new_is h entry segment c.states c.steps ds i k in
       let old = old_state i k in
       let figures : FiguresWithin (state_of new i) mv_most = figures_within h entry segment c.states c.steps ds segments_ok (states_ok h entry segment c fine) i high k in
+      let flowing = new_flowing h entry segment c.states c.steps ds segments_ok i k in
       record {
         count = figures.count;
         queue = figures.queue;
-        flows = flows_sound figures.flows;
+        flows = flows_sound (segment i) figures.flows flowing.remainder;
         sign = rw is old.sign;
         setting = rw is (setting_kept (segment i) r.count r.ramp c.steps m old.setting);
-        speed = within_good (free_speed h entry segment i) _ (new_flowing h entry segment c.states c.steps ds segments_ok i k).speed;
+        speed = within_good (free_speed h entry segment i) _ flowing.speed;
       }
 
   pub new_ramp : (i : ℕ) → i < h.size → let r = state_of c.states i in (state_of new i).ramp ≡ ramp_now (segment i) r.count r.ramp c.steps

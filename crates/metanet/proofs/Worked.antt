@@ -13,7 +13,7 @@ use Rattle.metanet.specs.Step.{sign_of, rate_of, moves, step_on}
 use Rattle.metanet.specs.Start.{start_state, start_case}
 use Rattle.metanet.specs.Line.{Line, change, case_of}
 use Rattle.metanet.specs.Report.{case_figures, segment_figures}
-use Rattle.metanet.specs.Worked.{WorkedStep, WorkedHolds, given_figures, all_figures, average_figures, figures_along, start_case_of, WorkedList, chain_list}
+use Rattle.metanet.specs.Worked.{WorkedStep, WorkedHolds, given_figures, all_figures, unreported_figures, figures_along, start_case_of, WorkedList, chain_list}
 use Rattle.metanet.specs.WorkedJunction.{junction_list}
 
 -- ---- carried on from case to case
@@ -37,12 +37,12 @@ along_carried f w s l (k ∷ ks) =
 
 -- so a list holds where its figures, carried on, are those that it gives
 worked : (l : WorkedList) → carried all_figures l.network (start_case_of l) l.steps ≡ map given_figures l.steps
-    → carried average_figures l.network (start_case_of l) l.steps ≡ map (λ k. k.averages) l.steps → WorkedHolds l
+    → carried unreported_figures l.network (start_case_of l) l.steps ≡ map (λ k. k.unreported) l.steps → WorkedHolds l
 unfolding case_of
 worked l e a =
     record {
       reported = along_carried all_figures l.network (start_case_of l) [] l.steps ∙ e;
-      averaged = along_carried average_figures l.network (start_case_of l) [] l.steps ∙ a;
+      unreported = along_carried unreported_figures l.network (start_case_of l) [] l.steps ∙ a;
     }
 
 pub chain_holds : WorkedHolds chain_list

@@ -52,8 +52,8 @@ unfolding stepped_words
 free_stepped w r = go (eqb r.ramp.kind alinea_kind) refl
   where
     go : (b : Bool) → eqb r.ramp.kind alinea_kind ≡ b → drop words_used (stepped_words w r) ≡ drop words_used w
-    go true e = simp (e, past words_used 0 (lit< tt), past words_used 1 (lit< tt), past words_used 5 (lit< tt), past words_used 10 (lit< tt), past words_used 11 (lit< tt), past words_used 12 (lit< tt), past words_used 13 (lit< tt))
-    go false e = simp (e, past words_used 0 (lit< tt), past words_used 1 (lit< tt), past words_used 5 (lit< tt), past words_used 10 (lit< tt), past words_used 11 (lit< tt))
+    go true e = simp (e, past words_used 0 (lit< tt), past words_used 1 (lit< tt), past words_used 5 (lit< tt), past words_used 10 (lit< tt), past words_used 11 (lit< tt), past words_used 12 (lit< tt), past words_used 13 (lit< tt), past words_used 14 (lit< tt))
+    go false e = simp (e, past words_used 0 (lit< tt), past words_used 1 (lit< tt), past words_used 5 (lit< tt), past words_used 10 (lit< tt), past words_used 11 (lit< tt), past words_used 14 (lit< tt))
 
 free_totals : (w : List ℕ) (came left time : ℕ) → drop 4 (totals_words w came left time) ≡ drop 4 w
 unfolding totals_words

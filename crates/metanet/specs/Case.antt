@@ -23,7 +23,7 @@ fixed_kind = 1
 abbrev pub alinea_kind : ℕ
 alinea_kind = 2
 
--- ---- a state with its ramp open, its sign dark, flows 0
+-- ---- a state with its ramp open, its sign dark, flows 0 and b 0
 
 abbrev pub dark_sign : SignSetting
 dark_sign = record { limit = 0; compliance = 0 }
@@ -38,7 +38,7 @@ open_ramp most = plain_ramp open_kind most
 
 abbrev pub open_state : ℕ → ℕ → ℕ → Float → SegmentState
 open_state count queue most speed =
-    record { count = count; queue = queue; sign = dark_sign; ramp = open_ramp most; flows = record { outflow = 0; release = 0 }; speed = speed }
+    record { count = count; queue = queue; sign = dark_sign; ramp = open_ramp most; flows = record { outflow = 0; remainder = 0; release = 0 }; speed = speed }
 
 -- ---- state i, counted from 0
 

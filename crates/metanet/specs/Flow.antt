@@ -1,5 +1,5 @@
 -- Rates, releases and flows of one segment, in mv: steps 1 to 3 of "One step". All whole numbers.
-use Rattle.std.specs.Prelude.{ℕ, suc, ◌+◌, ◌-◌, ◌*◌, ◌/◌, min, max, cond, leb, ltb, eqb, ℤ, pos, negsuc, neg_ℤ}
+use Rattle.std.specs.Prelude.{ℕ, suc, ◌+◌, ◌-◌, ◌*◌, ◌/◌, ◌%◌, min, max, cond, leb, ltb, eqb, ℤ, pos, negsuc, neg_ℤ}
 use Rattle.laws.specs.Greatest.{greatest}
 use Rattle.format.specs.declared.Head.{Head}
 use Rattle.format.specs.declared.Segment.{Segment}
@@ -47,9 +47,13 @@ speed_bound h e s y = cond (ltb y (e s.critical)) (s.lanes * y * limiting_densit
 abbrev pub release_of : ℕ → ℕ → ℕ → ℕ
 release_of waiting rate bound = min (min waiting rate) bound
 
--- ---- 3. outflow = whole part of N × s × T ÷ (3600 × L)
-abbrev pub outflow_of : ℕ → ℕ → ℕ → ℕ → ℕ
-outflow_of n s t l = n * s * t / (3600 * l)
+-- ---- 3. outflow = whole part of (N × s × T + b) ÷ (3600 × L) (F-8)
+abbrev pub outflow_of : ℕ → ℕ → ℕ → ℕ → ℕ → ℕ
+outflow_of n s t l b = (n * s * t + b) / (3600 * l)
+
+-- the new b is what that division leaves
+abbrev pub remainder_of : ℕ → ℕ → ℕ → ℕ → ℕ → ℕ
+remainder_of n s t l b = (n * s * t + b) % (3600 * l)
 
 -- exit part = whole part of outflow × X ÷ 1000
 abbrev pub exit_part : ℕ → ℕ → ℕ

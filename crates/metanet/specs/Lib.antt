@@ -6,6 +6,7 @@ pub mod Step
 pub mod Start
 pub mod Change
 pub mod Line
+pub mod Fractions
 pub mod Report
 pub mod Drain
 pub mod Words

@@ -1,5 +1,5 @@
 -- A sound case, and the rows of the table that judge a step on it: 12, 13, 15 and 16.
-use Rattle.std.specs.Prelude.{ℕ, Bool, true, cond, not, ◌&&◌, ◌||◌, List, [], ◌∷◌, ltb, leb, eqb, length, get_or, Float}
+use Rattle.std.specs.Prelude.{ℕ, ◌*◌, Bool, true, cond, not, ◌&&◌, ◌||◌, List, [], ◌∷◌, ltb, leb, eqb, length, get_or, Float}
 use Rattle.std.specs.Float.Ieee.{le}
 use Rattle.laws.specs.First.{outside, any_of, row, first, first_of}
 use Rattle.laws.specs.Real.{real}
@@ -80,9 +80,9 @@ setting_bad m most r =
 unfoldable pub average_bad : ℕ → ℕ → Bool
 average_bad sum summed = ltb sum_most sum || ltb summed_most summed
 
--- mv figures
-unfoldable pub flows_bad : Flows → Bool
-flows_bad r = ltb mv_most r.outflow || ltb mv_most r.release
+-- mv figures; b is below 3600 × L (F-8)
+unfoldable pub flows_bad : Segment → Flows → Bool
+flows_bad s r = any_of (ltb mv_most r.outflow ∷ ltb mv_most r.release ∷ leb (3600 * s.metres) r.remainder ∷ [])
 
 -- speeds in 1,000..F
 unfoldable pub speed_bad : ℕ → Float → Bool
@@ -95,7 +95,7 @@ state_bad m s f r =
     any_of
     (ltb mv_most r.count
     ∷ ltb mv_most r.queue
-    ∷ flows_bad r.flows
+    ∷ flows_bad s r.flows
     ∷ sign_bad r.sign
     ∷ speed_bad f r.speed
     ∷ setting_bad m s.most r.ramp

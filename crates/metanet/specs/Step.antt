@@ -18,7 +18,7 @@ use Rattle.metanet.specs.declared.Neighbours.{Neighbours}
 use Rattle.metanet.specs.declared.Sign.{Sign}
 use Rattle.metanet.specs.declared.Sign.TheVariants.{Dark, Shown}
 use Rattle.metanet.specs.Case.{Case, open_kind, alinea_kind, state_of}
-use Rattle.metanet.specs.Flow.{alinea_rate, jam_bound, sign_speed, limiting_speed, speed_bound, release_of, outflow_of, exit_part}
+use Rattle.metanet.specs.Flow.{alinea_rate, jam_bound, sign_speed, limiting_speed, speed_bound, release_of, outflow_of, remainder_of, exit_part}
 use Rattle.metanet.specs.Speed.{area, curve_speed, under_sign, new_speed}
 use Rattle.metanet.specs.Junction.{to_first, to_second, reaching, gathered, entry_speed, two_after, density_ahead}
 
@@ -88,12 +88,16 @@ release_now s r t d bound = release_of (r.queue + d) (rate_now s r.ramp t) bound
 
 -- 3. the outflow
 unfoldable pub outflow_now : Head → Segment → SegmentState → ℕ
-outflow_now h s r = outflow_of r.count (whole_speed r) h.step s.metres
+outflow_now h s r = outflow_of r.count (whole_speed r) h.step s.metres r.flows.remainder
+
+-- and the new remainder b (F-8)
+unfoldable pub remainder_now : Head → Segment → SegmentState → ℕ
+remainder_now h s r = remainder_of r.count (whole_speed r) h.step s.metres r.flows.remainder
 
 -- the flows that this step makes
 unfoldable pub flows_now : Head → Segment → SegmentState → ℕ → ℕ → ℕ → Flows
-unfolding release_now outflow_now
-flows_now h s r t d bound = record { outflow = outflow_now h s r; release = release_now s r t d bound }
+unfolding release_now outflow_now remainder_now
+flows_now h s r t d bound = record { outflow = outflow_now h s r; remainder = remainder_now h s r; release = release_now s r t d bound }
 
 -- all the rest goes on
 unfoldable pub through : Head → Segment → SegmentState → ℕ

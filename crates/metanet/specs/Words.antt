@@ -13,7 +13,7 @@ use Rattle.metanet.specs.Case.{Case, state_of}
 abbrev pub net_of : List ℕ → List ℕ
 net_of words = take 2560 words
 
--- ---- a state in 16 words: N, w, limit, compliance + 500, kind, R, target, gain, least, z, last outflow, last release, S, m; 2 are free
+-- ---- a state in 16 words: N, w, limit, compliance + 500, kind, R, target, gain, least, z, last outflow, last release, S, m, b; 1 is free
 
 -- its parts, read
 unfoldable pub sign_in : List ℕ → SignSetting
@@ -33,7 +33,7 @@ ramp_in w =
     }
 
 unfoldable pub flows_in : List ℕ → Flows
-flows_in w = record { outflow = get_or w 10 0; release = get_or w 11 0 }
+flows_in w = record { outflow = get_or w 10 0; remainder = get_or w 14 0; release = get_or w 11 0 }
 
 unfoldable pub state_in : List ℕ → Float → SegmentState
 unfolding sign_in ramp_in flows_in
@@ -52,10 +52,13 @@ flows_words r = r.outflow ∷ r.release ∷ []
 abbrev pub average_words : Ramp → List ℕ
 average_words r = r.sum ∷ r.summed ∷ []
 
--- the words w of a state with the state r put in; the free ones stay
+abbrev pub remainder_words : Flows → List ℕ
+remainder_words r = r.remainder ∷ []
+
+-- the words w of a state with the state r put in; the free one stays
 unfoldable pub put_state : SegmentState → List ℕ → List ℕ
 put_state r w =
-    r.count ∷ r.queue ∷ (sign_words r.sign ++ (ramp_words r.ramp ++ (flows_words r.flows ++ (average_words r.ramp ++ drop 14 w))))
+    r.count ∷ r.queue ∷ (sign_words r.sign ++ (ramp_words r.ramp ++ (flows_words r.flows ++ (average_words r.ramp ++ (remainder_words r.flows ++ drop 15 w)))))
 
 -- ---- a case, read
 

@@ -18,8 +18,8 @@ pub record WorkedStep : Type 0 where
   pub totals : List ℕ
   -- and of each segment N, s, bits of v, w, last outflow, last release, R
   pub segments : List (List ℕ)
-  -- and its S and m
-  pub averages : List (List ℕ)
+  -- and what no report shows: its S, m and b
+  pub unreported : List (List ℕ)
 
 pub record WorkedList : Type 0 where
   -- what is handed to Start
@@ -33,12 +33,13 @@ pub record WorkedList : Type 0 where
 abbrev pub given_figures : WorkedStep → List (List ℕ)
 given_figures k = k.totals ∷ k.segments
 
--- the figures of a case, in that order; and S and m of each segment
+-- the figures of a case, in that order; and S, m and b of each segment
 abbrev pub all_figures : Network → Case → List (List ℕ)
 all_figures w c = case_figures w c ∷ table (segment_figures w c) w.head.size
 
-abbrev pub average_figures : Network → Case → List (List ℕ)
-average_figures w c = table (λ i. (state_of c.states i).ramp.sum ∷ (state_of c.states i).ramp.summed ∷ []) w.head.size
+abbrev pub unreported_figures : Network → Case → List (List ℕ)
+unreported_figures w c =
+    table (λ i. (state_of c.states i).ramp.sum ∷ (state_of c.states i).ramp.summed ∷ (state_of c.states i).flows.remainder ∷ []) w.head.size
 
 -- such figures after each step, of the case of the line so far; line is what came before
 unfoldable pub figures_along : (Network → Case → List (List ℕ)) → Network → Case → Line → List WorkedStep → List (List (List ℕ))
@@ -51,7 +52,7 @@ start_case_of l = start_case l.network l.mvs l.speeds l.queues
 -- after each step of the list they are those that the list gives
 pub record WorkedHolds (l : WorkedList) : Type 0 where
   pub reported : figures_along all_figures l.network (start_case_of l) [] l.steps ≡ map given_figures l.steps
-  pub averaged : figures_along average_figures l.network (start_case_of l) [] l.steps ≡ map (λ k. k.averages) l.steps
+  pub unreported : figures_along unreported_figures l.network (start_case_of l) [] l.steps ≡ map (λ k. k.unreported) l.steps
 
 -- ---- a chain of three segments: T 10, τ 18, ν 60, κ 40, δ 122; one curve, entry j is 100,000 − 450 j
 
@@ -85,47 +86,47 @@ chain_list =
                 ∷ (167757 ∷ 70587 ∷ 0x40f13bb2211e1bf0 ∷ 14236 ∷ 7838 ∷ 58264 ∷ 60000 ∷ [])
                 ∷ (35899 ∷ 71537 ∷ 0x40f1771ffb74c9f6 ∷ 0 ∷ 12984 ∷ 1700 ∷ 30000 ∷ [])
                 ∷ [];
-            averages = (0 ∷ 0 ∷ []) ∷ (0 ∷ 0 ∷ []) ∷ (40520 ∷ 1 ∷ []) ∷ [];
+            unreported = (0 ∷ 0 ∷ 0 ∷ []) ∷ (0 ∷ 0 ∷ 2089270 ∷ []) ∷ (40520 ∷ 1 ∷ 1693600 ∷ []) ∷ [];
           }
           ∷ record {
             items = signed 1 20 (neg_ℤ (pos 500)) ∷ metered 2 (Alinea 31 2241 200 2) ∷ stepped (8000 ∷ 1500 ∷ 0 ∷ []) ∷ [];
-            totals = 2 ∷ 298948 ∷ 177000 ∷ 21700 ∷ 32215 ∷ 9709670 ∷ [];
+            totals = 2 ∷ 298947 ∷ 177000 ∷ 21700 ∷ 32216 ∷ 9709670 ∷ [];
             segments =
                 (48939 ∷ 40995 ∷ 0x40e40471d1aae4de ∷ 177000 ∷ 48673 ∷ 10000 ∷ 30000 ∷ [])
                 ∷ (191050 ∷ 88894 ∷ 0x40f5b3ea2074ee69 ∷ 0 ∷ 41116 ∷ 15736 ∷ 60000 ∷ [])
-                ∷ (58959 ∷ 79556 ∷ 0x40f36c45788a20f5 ∷ 0 ∷ 11889 ∷ 0 ∷ 30000 ∷ [])
+                ∷ (58958 ∷ 79556 ∷ 0x40f36c45788a20f5 ∷ 0 ∷ 11890 ∷ 0 ∷ 30000 ∷ [])
                 ∷ [];
-            averages = (0 ∷ 0 ∷ []) ∷ (167757 ∷ 1 ∷ []) ∷ (76419 ∷ 2 ∷ []) ∷ [];
+            unreported = (0 ∷ 0 ∷ 600000 ∷ []) ∷ (167757 ∷ 1 ∷ 2642860 ∷ []) ∷ (76419 ∷ 2 ∷ 361230 ∷ []) ∷ [];
           }
           ∷ record {
             items = signed 1 45 (neg_ℤ (pos 50)) ∷ signed 2 60 (neg_ℤ (pos 100)) ∷ stepped (9500 ∷ 0 ∷ 1200 ∷ []) ∷ [];
-            totals = 3 ∷ 299423 ∷ 156665 ∷ 32400 ∷ 62775 ∷ 14469150 ∷ [];
+            totals = 3 ∷ 299422 ∷ 156665 ∷ 32400 ∷ 62776 ∷ 14469140 ∷ [];
             segments =
-                (67629 ∷ 1000 ∷ 0x408f400000000000 ∷ 156665 ∷ 11145 ∷ 29835 ∷ 30000 ∷ [])
-                ∷ (143226 ∷ 68796 ∷ 0x40f0cbcb7f2ca6c0 ∷ 0 ∷ 58969 ∷ 0 ∷ 200 ∷ [])
-                ∷ (88568 ∷ 93886 ∷ 0x40f6ebe7ced0a06a ∷ 0 ∷ 21715 ∷ 1200 ∷ 27373 ∷ [])
+                (67628 ∷ 1000 ∷ 0x408f400000000000 ∷ 156665 ∷ 11146 ∷ 29835 ∷ 30000 ∷ [])
+                ∷ (143226 ∷ 68796 ∷ 0x40f0cbcefb5fcbf6 ∷ 0 ∷ 58970 ∷ 0 ∷ 200 ∷ [])
+                ∷ (88568 ∷ 93886 ∷ 0x40f6ebe49922237c ∷ 0 ∷ 21715 ∷ 1200 ∷ 27373 ∷ [])
                 ∷ [];
-            averages = (0 ∷ 0 ∷ []) ∷ (191050 ∷ 1 ∷ []) ∷ (58959 ∷ 1 ∷ []) ∷ [];
+            unreported = (0 ∷ 0 ∷ 343050 ∷ []) ∷ (191050 ∷ 1 ∷ 1029860 ∷ []) ∷ (58958 ∷ 1 ∷ 587710 ∷ []) ∷ [];
           }
           ∷ record {
             items = signed 1 51 (pos 0) ∷ stepped (7000 ∷ 2000 ∷ 0 ∷ []) ∷ [];
-            totals = 4 ∷ 256996 ∷ 164465 ∷ 41400 ∷ 106402 ∷ 19030030 ∷ [];
+            totals = 4 ∷ 256994 ∷ 164465 ∷ 41400 ∷ 106404 ∷ 19030010 ∷ [];
             segments =
-                (68254 ∷ 15220 ∷ 0x40cdba476ed0e31f ∷ 162665 ∷ 375 ∷ 1000 ∷ 30000 ∷ [])
-                ∷ (109588 ∷ 49427 ∷ 0x40e82261360817bf ∷ 1800 ∷ 34213 ∷ 200 ∷ 200 ∷ [])
-                ∷ (79154 ∷ 89310 ∷ 0x40f5cde401712d4f ∷ 0 ∷ 38496 ∷ 0 ∷ 27373 ∷ [])
+                (68253 ∷ 15219 ∷ 0x40cdb9e8062a4ce4 ∷ 162665 ∷ 375 ∷ 1000 ∷ 30000 ∷ [])
+                ∷ (109588 ∷ 49427 ∷ 0x40e822610093a060 ∷ 1800 ∷ 34213 ∷ 200 ∷ 200 ∷ [])
+                ∷ (79153 ∷ 89310 ∷ 0x40f5cde5dca5b6ec ∷ 0 ∷ 38497 ∷ 0 ∷ 27373 ∷ [])
                 ∷ [];
-            averages = (0 ∷ 0 ∷ []) ∷ (334276 ∷ 2 ∷ []) ∷ (147527 ∷ 2 ∷ []) ∷ [];
+            unreported = (0 ∷ 0 ∷ 1623050 ∷ []) ∷ (334276 ∷ 2 ∷ 1348820 ∷ []) ∷ (147526 ∷ 2 ∷ 20190 ∷ []) ∷ [];
           }
           ∷ record {
             items = metered 3 (Fixed 900) ∷ stepped (7000 ∷ 2000 ∷ 1500 ∷ []) ∷ [];
-            totals = 5 ∷ 237768 ∷ 158645 ∷ 51900 ∷ 141950 ∷ 23244640 ∷ [];
+            totals = 5 ∷ 237765 ∷ 158646 ∷ 51900 ∷ 141952 ∷ 23244600 ∷ [];
             segments =
-                (77703 ∷ 34951 ∷ 0x40e110e4c4c31e60 ∷ 154445 ∷ 5771 ∷ 15220 ∷ 30000 ∷ [])
-                ∷ (96752 ∷ 47062 ∷ 0x40e6fac0aee9fb6f ∷ 3600 ∷ 18807 ∷ 200 ∷ 200 ∷ [])
-                ∷ (63313 ∷ 81045 ∷ 0x40f3c9577c032760 ∷ 600 ∷ 32727 ∷ 900 ∷ 900 ∷ [])
+                (77701 ∷ 34950 ∷ 0x40e110c66ad350d9 ∷ 154446 ∷ 5771 ∷ 15219 ∷ 30000 ∷ [])
+                ∷ (96751 ∷ 47062 ∷ 0x40e6fac6cc86b0d4 ∷ 3600 ∷ 18808 ∷ 200 ∷ 200 ∷ [])
+                ∷ (63313 ∷ 81045 ∷ 0x40f3c955dc1f0098 ∷ 600 ∷ 32727 ∷ 900 ∷ 900 ∷ [])
                 ∷ [];
-            averages = (0 ∷ 0 ∷ []) ∷ (109588 ∷ 1 ∷ []) ∷ (0 ∷ 0 ∷ []) ∷ [];
+            unreported = (0 ∷ 0 ∷ 1247120 ∷ []) ∷ (109588 ∷ 1 ∷ 369580 ∷ []) ∷ (0 ∷ 0 ∷ 1244490 ∷ []) ∷ [];
           }
           ∷ [];
     }

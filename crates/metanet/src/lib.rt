@@ -26,10 +26,12 @@ pub struct Ramp {
     pub summed: u64,
 }
 
-// What the last step let out of a segment, exit part included, and what it released from the queue, in mv.
+// What the last step let out of a segment, exit part included, in mv; the remainder b that this left, in parts of 3600 × L to the mv; and what it
+// released from the queue, in mv.
 #[derive(Clone, Copy)]
 pub struct Flows {
     pub outflow: u64,
+    pub remainder: u64,
     pub release: u64,
 }
 

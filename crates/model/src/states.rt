@@ -24,6 +24,7 @@ fn store(w: &mut [u64], r: SegmentState)
     w[5] = ramp.rate;
     w[10] = flows.outflow;
     w[11] = flows.release;
+    w[14] = flows.remainder;
     if ramp.kind == 2 {
         w[12] = ramp.sum;
         w[13] = ramp.summed;

@@ -2,11 +2,18 @@
 ghost use Rattle.std.specs.Prelude.{◌≡◌, ◌*◌, ◌/◌, ◌<◌, ◌≤◌, min};
 ghost use Rattle.metanet.specs.Flow.{jam_bound, sign_speed, alinea_rate};
 ghost use Rattle.metanet.specs.Speed.{area};
-ghost use Rattle.metanet.specs.Step.{outflow_now};
+ghost use Rattle.metanet.specs.Step.{outflow_now, remainder_now};
 ghost use Rattle.metanet.proofs.Ready.{AreaOk};
 
 use crate::site::Site;
 use format::Segment;
+
+// What a step lets out of a segment, in mv, and the new remainder b.
+#[derive(Clone, Copy)]
+pub(crate) struct Outflow {
+    pub(crate) whole: u64,
+    pub(crate) remainder: u64,
+}
 
 // G, in lane-metres.
 pub(crate) fn area_of(s: Segment) -> u64
@@ -87,10 +94,17 @@ impl Site<'_> {
         r.rate.saturating_sub(down).clamp(r.least, most)
     }
 
-    // What a step lets out of it: no more than it has.
-    pub(crate) fn outflow(&self) -> u64
-        ensures { let s = self.now in (result ≡ outflow_now s.head s.own s.state) × (result ≤ s.state.count) }
+    // What a step lets out of it, no more than it has, and the new remainder: one division gives both.
+    pub(crate) fn outflow(&self) -> Outflow
+        ensures whole { let s = self.now in (result.whole ≡ outflow_now s.head s.own s.state) × (result.whole ≤ s.state.count) }
+        ensures remainder { let s = self.now in result.remainder ≡ remainder_now s.head s.own s.state }
     {
-        self.state.count * self.whole_speed() * self.head.step / (3600 * self.own.metres)
+        let product = self.state.count * self.whole_speed() * self.head.step
+            + self.state.flows.remainder;
+        let parts = 3600 * self.own.metres;
+        Outflow {
+            whole: product / parts,
+            remainder: product % parts,
+        }
     }
 }

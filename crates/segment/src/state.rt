@@ -88,11 +88,15 @@ impl Site<'_> {
         };
         let v = self.new_speed(old, o.want, on_ramp, release);
         SegmentState {
-            count: r.count + release + o.passed - outflow,
+            count: r.count + release + o.passed - outflow.whole,
             queue: waiting - release,
             sign: r.sign,
             ramp,
-            flows: Flows { outflow, release },
+            flows: Flows {
+                outflow: outflow.whole,
+                remainder: outflow.remainder,
+                release,
+            },
             speed: v,
         }
     }

@@ -72,11 +72,13 @@ fn average_bad(sum: u64, summed: u64) -> bool
     (60 * MV_MOST < sum) | (60 < summed)
 }
 
-#[tactic(auto, unfolding(metanet::specs::Sound::flows_bad))]
-fn flows_bad(r: Flows) -> bool
-    ensures { result ≡ flows_bad r }
+// Of segment s.
+#[tactic(auto, unfolding(laws::specs::First::any_of, metanet::specs::Sound::flows_bad))]
+fn flows_bad(s: Segment, r: Flows) -> bool
+    requires { s.metres ≤ 2000 }
+    ensures { result ≡ flows_bad s r }
 {
-    (MV_MOST < r.outflow) | (MV_MOST < r.release)
+    (MV_MOST < r.outflow) | (MV_MOST < r.release) | (3600 * s.metres <= r.remainder)
 }
 
 // NaN is in no range.
@@ -89,16 +91,21 @@ fn speed_bad(f: u64, v: f64) -> bool
 }
 
 // The ramp of segment i of a network: its setting, or S or m; most is the segment's Q. Whether it may be metered is looked for only where it
-// is, since every call judges all. An open or fixed ramp has none of S and m, so that only those of ALINEA can pass their bounds.
+// is, since every call judges all; most are open. An open or fixed ramp has none of S and m, so that only those of ALINEA can pass their bounds.
 #[tactic(auto, using(crate::proofs::Steps::plain_ramps), unfolding(metanet::specs::Sound::setting_bad))]
 fn ramp_bad(net: &Judged<'_>, i: usize, most: u64, r: Ramp) -> bool
     requires { i < (head_in net.now.net.words.now).size }
     ensures { result ≡ (setting_bad (on_ramp_in net.now.net.words.now i) most r || average_bad r.sum r.summed) }
 {
+    if r.kind == 0 {
+        return open_bad(most, r);
+    }
+    if !case_words::on_ramp(net, i) {
+        return true;
+    }
     match r.kind {
-        0 => open_bad(most, r),
-        1 => !case_words::on_ramp(net, i) || fixed_bad(most, r),
-        2 => !case_words::on_ramp(net, i) || (alinea_bad(most, r) | average_bad(r.sum, r.summed)),
+        1 => fixed_bad(most, r),
+        2 => alinea_bad(most, r) | average_bad(r.sum, r.summed),
         _ => true,
     }
 }
@@ -106,12 +113,12 @@ fn ramp_bad(net: &Judged<'_>, i: usize, most: u64, r: Ramp) -> bool
 // The state r of segment i, which is s; f is F.
 #[tactic(auto, unfolding(laws::specs::First::any_of, metanet::specs::Sound::state_bad))]
 fn state_bad(net: &Judged<'_>, i: usize, s: Segment, f: u64, r: SegmentState) -> bool
-    requires { (i < (head_in net.now.net.words.now).size) × (f ≤ 200000) }
+    requires { (i < (head_in net.now.net.words.now).size) × (s.metres ≤ 2000) × (f ≤ 200000) }
     ensures { result ≡ state_bad (on_ramp_in net.now.net.words.now i) s f r }
 {
     (MV_MOST < r.count)
         | (MV_MOST < r.queue)
-        | flows_bad(r.flows)
+        | flows_bad(s, r.flows)
         | sign_bad(r.sign)
         | speed_bad(f, r.speed)
         | ramp_bad(net, i, s.most, r.ramp)

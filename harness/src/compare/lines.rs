@@ -3,6 +3,7 @@
 //! are laid out from the oracle's typed case.
 
 mod line;
+mod outflows;
 pub mod quiet;
 
 use super::Difference;

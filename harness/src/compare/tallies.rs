@@ -6,7 +6,7 @@ use crate::arrays::Arrays;
 use crate::calls::{Call, Start};
 use crate::random::Random;
 use crate::stored_case::{state_word, total_word};
-use crate::stored_case::{COUNT, LAST_OUTFLOW, LAST_RELEASE, QUEUE, RATE, STEPS};
+use crate::stored_case::{COUNT, LAST_OUTFLOW, LAST_RELEASE, QUEUE, RATE, REMAINDER, STEPS};
 use crate::study::{case_word, speeds_for, words_for, RUNS};
 use oracle::file::{self, Followers, Network, Segment};
 use oracle::network::ENTRIES;
@@ -43,6 +43,8 @@ struct Listed {
     figures: [u64; 6],
     speed: f64,
     outflow: u64,
+    /// b: 16,000 × 95,000 × 10 is 8,444 × 3600 × 500 and 800,000.
+    remainder: u64,
     release: u64,
 }
 
@@ -52,6 +54,7 @@ const LISTING: [Listed; 2] = [
         figures: [1, 16_000, 3_000, 4_000, 10_000, 250_000],
         speed: 95_000.0,
         outflow: 10_000,
+        remainder: 0,
         release: 6_000,
     },
     Listed {
@@ -59,6 +62,7 @@ const LISTING: [Listed; 2] = [
         figures: [2, 10_556, 0, 4_000, 18_444, 440_000],
         speed: 97_500.0,
         outflow: 8_444,
+        remainder: 800_000,
         release: 3_000,
     },
 ];
@@ -96,6 +100,7 @@ impl Listed {
         case[state_word(0, RATE)] = 6_000;
         case[state_word(0, LAST_OUTFLOW)] = self.outflow;
         case[state_word(0, LAST_RELEASE)] = self.release;
+        case[state_word(0, REMAINDER)] = self.remainder;
         let totals = [steps, arrivals, exits, time];
         case[total_word(1, STEPS)..][..totals.len()].copy_from_slice(&totals);
     }

@@ -5,7 +5,9 @@ use super::{unsound, Damage, Part};
 use crate::cases::{MOST_MV, MOST_STEPS, MOST_TIME};
 use crate::random::Random;
 use crate::stored_case::{state_word, total_word, CaseDraft};
-use crate::stored_case::{ARRIVALS, COUNT, EXITS, LAST_OUTFLOW, LAST_RELEASE, QUEUE, STEPS, TIME};
+use crate::stored_case::{
+    ARRIVALS, COUNT, EXITS, LAST_OUTFLOW, LAST_RELEASE, QUEUE, REMAINDER, STEPS, TIME,
+};
 
 pub const DAMAGES: &[Damage<CaseDraft>] = &[
     unsound("N", Part::Record, |draft, place, random| {
@@ -19,6 +21,10 @@ pub const DAMAGES: &[Damage<CaseDraft>] = &[
     }),
     unsound("last release", Part::Record, |draft, place, random| {
         exceed(draft, state_word(place, LAST_RELEASE), MOST_MV, random)
+    }),
+    unsound("b", Part::Record, |draft, place, random| {
+        let end = draft.network.segments[place].remainder_end();
+        exceed(draft, state_word(place, REMAINDER), end - 1, random)
     }),
     unsound("steps", Part::File, |draft, _, random| {
         exceed(draft, total_word(draft.n(), STEPS), MOST_STEPS, random)

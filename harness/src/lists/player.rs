@@ -5,7 +5,7 @@ use super::calls;
 use crate::arrays::Arrays;
 use crate::calls::{ask_engine, Answer, Call};
 use crate::random::Random;
-use crate::stored_case::{state_word, SUM, SUM_STEPS};
+use crate::stored_case::state_word;
 use crate::study::{case_word, speeds_for, words_for};
 
 pub struct Player {
@@ -96,11 +96,10 @@ impl Player {
         }
     }
 
-    /// S and m of a segment (from 0) of a case, which no report shows.
-    pub fn collected(&self, case: usize, place: usize) -> [u64; 2] {
+    /// A word of the state of a segment (from 0) of a case.
+    pub fn word(&self, case: usize, place: usize, word: usize) -> u64 {
         let n = usize::from(self.file[6]);
-        let state = &self.arrays.words[case_word(n, case) + state_word(place, 0)..];
-        [state[SUM], state[SUM_STEPS]]
+        self.arrays.words[case_word(n, case) + state_word(place, word)]
     }
 
     /// What the study of the last accepted start needs may have changed.

@@ -1,20 +1,24 @@
-//! The state at the end of a list, as reports show it; S and m as they stand in
-//! the words.
+//! The state at the end of a list, as reports show it; what no report shows as
+//! it stands in the words.
 
 use super::arguments::parse;
 use super::player::Player;
 use crate::calls::{Answer, Call, Question, CASE_FIGURES, SEGMENT_FIGURES};
+use crate::stored_case::{REMAINDER, SUM, SUM_STEPS};
 use oracle::book::SLOTS;
 
 /// An empty slot.
 const EMPTY: u64 = 23;
 
-/// A case: its report, that of each of its segments, and their S and m.
+/// What no report shows of a segment: its name in a list, and its word.
+const UNREPORTED: [(&str, usize); 3] = [("S", SUM), ("m", SUM_STEPS), ("b", REMAINDER)];
+
+/// A case: its report, that of each of its segments, and what they do not show.
 #[derive(Default)]
 struct Case {
     figures: [u64; CASE_FIGURES],
     segments: Vec<[u64; SEGMENT_FIGURES]>,
-    collected: Vec<[u64; 2]>,
+    unreported: Vec<[u64; UNREPORTED.len()]>,
 }
 
 /// Run count, which slots are filled, and all figures of each case.
@@ -42,8 +46,8 @@ pub fn expect<'a>(player: &mut Player, lines: impl Iterator<Item = &'a str>) -> 
             return Err(format!("no mark, or no case {number}"));
         }
         report(player, number as u64, case.map(|(_, case)| case))?;
-        let collected = case.map_or(&[][..], |(_, case)| &case.collected);
-        compare(player, number, collected)?;
+        let unreported = case.map_or(&[][..], |(_, case)| &case.unreported);
+        compare(player, number, unreported)?;
     }
     Ok(())
 }
@@ -64,12 +68,17 @@ fn report(player: &mut Player, number: u64, case: Option<&Case>) -> Result<(), S
     })
 }
 
-/// S and m of each segment of a case.
-fn compare(player: &Player, number: usize, collected: &[[u64; 2]]) -> Result<(), String> {
-    for (place, expected) in collected.iter().enumerate() {
-        let engine = player.collected(number, place);
+/// What no report shows of each segment of a case.
+fn compare(
+    player: &Player,
+    number: usize,
+    unreported: &[[u64; UNREPORTED.len()]],
+) -> Result<(), String> {
+    for (place, expected) in unreported.iter().enumerate() {
+        let engine = UNREPORTED.map(|(_, word)| player.word(number, place, word));
         if engine != *expected {
-            let what = format!("S and m of segment {} in case {number}", place + 1);
+            let names = UNREPORTED.map(|(name, _)| name);
+            let what = format!("{names:?} of segment {} in case {number}", place + 1);
             return Err(format!("{what}: expected {expected:?}, engine {engine:?}"));
         }
     }
@@ -96,7 +105,7 @@ fn begun(words: &[&str]) -> Result<Case, String> {
 
 impl Case {
     /// The next segment: N, s, bits of v, w, last outflow, last release, R;
-    /// S and m.
+    /// and what no report shows.
     fn add(&mut self, words: &[&str]) -> Result<(), String> {
         let figure = |name| after(words, name).and_then(parse);
         let bits = u64::from_str_radix(after(words, "v")?, 16).map_err(|_| "no bits")?;
@@ -108,7 +117,11 @@ impl Case {
         let rate = figure("R")?;
         self.segments
             .push([count, whole, bits, queue, outflow, release, rate]);
-        self.collected.push([figure("S")?, figure("m")?]);
+        let mut unreported = [0; UNREPORTED.len()];
+        for (place, (name, _)) in unreported.iter_mut().zip(UNREPORTED) {
+            *place = figure(name)?;
+        }
+        self.unreported.push(unreported);
         Ok(())
     }
 }

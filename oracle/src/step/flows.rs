@@ -15,6 +15,8 @@ pub struct Flows {
     pub release: u64,
     /// mv that leave the segment, exit part included.
     pub outflow: u64,
+    /// b after this step.
+    pub remainder: u64,
     /// mv of the outflow that leave by the off-ramp.
     pub exit_part: u64,
     /// mv of the rest that go to the first and to the second follower. What
@@ -36,24 +38,28 @@ impl Flows {
         let (rate, collected) = metering::meter(segment, state, steps);
         let waiting = state.queue + arrival;
         let road = origin::bound(network, place, state);
-        let outflow = outflow(network, segment, state);
+        let (outflow, remainder) = outflow(network, segment, state);
         let exit_part = outflow * u64::from(segment.exit_share) / 1000;
         Flows {
             rate,
             collected,
             release: waiting.min(rate).min(road.unwrap_or(u64::MAX)),
             outflow,
+            remainder,
             exit_part,
             parts: parts(segment.followers, outflow - exit_part),
         }
     }
 }
 
-/// Whole part of N × s × T ÷ (3600 × L), s the whole part of v. The bound on
-/// F × T keeps it at most N.
-fn outflow(network: &Network, segment: &Segment, state: &SegmentState) -> u64 {
+/// Whole part of (N × s × T + b) ÷ (3600 × L), s the whole part of v, and the
+/// new b, which is what that leaves. The bounds on F × T and on b keep the
+/// whole part at most N.
+fn outflow(network: &Network, segment: &Segment, state: &SegmentState) -> (u64, u64) {
     let metres = state.whole_speed() * u64::from(network.step);
-    state.count * metres / (3600 * u64::from(segment.length))
+    let sum = state.count * metres + state.remainder;
+    let divisor = segment.remainder_end();
+    (sum / divisor, sum % divisor)
 }
 
 /// The whole part of rest × share ÷ 1000, and what remains.

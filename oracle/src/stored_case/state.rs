@@ -1,6 +1,6 @@
 //! The state of one segment in its sixteen words: N, w, limit, compliance +
 //! 500, setting code, R, target, gain, least, z, last outflow, last release,
-//! S, m and two free words.
+//! S, m, b and a free word.
 
 use super::{MOST_COLLECTED, MOST_MV};
 use crate::book::rows::{judge_meter, judge_sign};
@@ -28,9 +28,11 @@ pub fn read(network: &Network, place: usize, words: &[u64], speed: f64) -> Optio
             steps: words[13],
         },
         last_outflow: words[10],
+        remainder: words[14],
         last_release: words[11],
     };
     let sound = figures_sound(&state)
+        && state.remainder < segment.remainder_end()
         && (1_000.0..=free_speed).contains(&speed)
         && setting_sound(network, place, state.setting)
         && rate_sound(state.setting, state.rate, most)
@@ -45,6 +47,7 @@ pub fn put_step(state: &SegmentState, words: &mut [u64]) {
     words[5] = state.rate;
     words[10] = state.last_outflow;
     words[11] = state.last_release;
+    words[14] = state.remainder;
     put_collected(state.collected, words);
 }
 

@@ -7,7 +7,7 @@ use std::ops::Range;
 
 /// The number of this arrangement. It rises when anything moves in the arrays,
 /// so that an older study is not taken for one of these.
-pub const ARRANGEMENT: u64 = 3;
+pub const ARRANGEMENT: u64 = 4;
 
 /// The word of the run count.
 pub const RUNS_AT: usize = NETWORK_WORDS;

@@ -51,7 +51,7 @@ impl Lent {
             self.lay(at + 4, setting_words(state.setting, state.rate));
             self.lay(at + 10, [state.last_outflow, state.last_release]);
             let Collected { sum, steps } = state.collected;
-            self.lay(at + 12, [sum, steps]);
+            self.lay(at + 12, [sum, steps, state.remainder]);
             self.speeds[place] = state.speed;
         }
         let at = LIVE + 16 * case.segments.len();

@@ -75,7 +75,7 @@ fn cases_that_are_looked_at() {
         assert_eq!(with_word(state + 5, 399), expected);
         assert_eq!(with_word(state + 12, 60_000_000_000_001), expected);
         assert_eq!(with_word(state + 13, 61), expected);
-        assert_eq!(with_word(state + 14, u64::MAX), 0);
+        assert_eq!(with_word(state + 14, u64::MAX), expected);
         assert_eq!(with_word(state + 15, u64::MAX), 0);
         assert_eq!(with_word(at + 48, 20_001), expected);
         assert_eq!(with_word(at + 51, 1_000_000_000_000_000_001), expected);

@@ -42,6 +42,7 @@ fn both_steps_of_the_tallies() {
     words[2560] = 2;
     words[2576..2578].copy_from_slice(&[10_556, 0]);
     words[2586..2588].copy_from_slice(&[8_444, 3_000]);
+    words[2590] = 800_000;
     words[2592..2596].copy_from_slice(&[2, 4_000, 18_444, 440_000]);
     bits[0] = 97_500_f64.to_bits();
     assert_eq!(lent.bits(), (words, bits));
@@ -112,9 +113,9 @@ fn twelve_for_words_of_a_segment_state() {
     assert_ends(STATE + 11, &[most], &[most + 1]);
     assert_ends(STATE + 12, &[0, 60 * most], &[60 * most + 1, u64::MAX]);
     assert_ends(STATE + 13, &[0, 60], &[61, 1 << 32, u64::MAX]);
-    for free in [14, 15] {
-        assert_ends(STATE + free, &[0, u64::MAX], &[]);
-    }
+    let end = 3_600 * 703;
+    assert_ends(STATE + 14, &[0, end - 1], &[end, u64::MAX]);
+    assert_ends(STATE + 15, &[0, u64::MAX], &[]);
 }
 
 /// Segment 1 is open with a dark sign, segment 3 has no origin besides.

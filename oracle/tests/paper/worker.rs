@@ -8,8 +8,8 @@ use oracle::case::Collected;
 pub trait Worker {
     fn answer(&mut self, call: &Call) -> Result<Figures, u8>;
 
-    /// S and m of a segment (from 0) of the live case.
-    fn collected(&self, place: usize) -> [u64; 2];
+    /// S, m and b of a segment (from 0) of the live case.
+    fn unreported(&self, place: usize) -> [u64; 3];
 }
 
 impl Worker for Book {
@@ -17,9 +17,10 @@ impl Worker for Book {
         self.call(call)
     }
 
-    fn collected(&self, place: usize) -> [u64; 2] {
-        let Collected { sum, steps } = self.live().case().segments[place].collected;
-        [sum, steps]
+    fn unreported(&self, place: usize) -> [u64; 3] {
+        let state = &self.live().case().segments[place];
+        let Collected { sum, steps } = state.collected;
+        [sum, steps, state.remainder]
     }
 }
 
@@ -28,8 +29,8 @@ impl Worker for Lent {
         self.call(call)
     }
 
-    fn collected(&self, place: usize) -> [u64; 2] {
+    fn unreported(&self, place: usize) -> [u64; 3] {
         let state = &self.words[LIVE + 16 * place..];
-        [state[12], state[13]]
+        [state[12], state[13], state[14]]
     }
 }

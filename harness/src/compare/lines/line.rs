@@ -1,6 +1,7 @@
 //! One line: the engine's arrays, and beside them the typed case with the
 //! arrays that it should be laid out in.
 
+use super::outflows::Outflows;
 use crate::arrays::Arrays;
 use crate::calls::{ask_engine, Call, Start};
 use crate::cases::MOST_STEPS;
@@ -17,6 +18,7 @@ use oracle::step;
 pub struct Line {
     pub network: Network,
     pub case: Case,
+    outflows: Outflows,
     engine: Arrays,
     expected: Arrays,
 }
@@ -35,6 +37,7 @@ impl Line {
         put_study(&network, 0, &[0; SLOTS], &mut expected.words);
         put_case_at(0, &case, &mut expected);
         let mut line = Line {
+            outflows: Outflows::none(&network),
             network,
             case,
             engine,
@@ -66,7 +69,9 @@ impl Line {
             }
             Call::Step(ref arrivals) => {
                 reached::note_step(&self.network, &self.case, arrivals);
+                self.outflows.begin(&self.network, &self.case);
                 step::step(&self.network, &mut self.case, arrivals);
+                self.outflows.end(&self.case);
                 self.expected.words[RUNS] += 1;
             }
             _ => unreachable!("no item of a line"),
@@ -75,11 +80,14 @@ impl Line {
         self.expect(&call, 0)
     }
 
-    /// A line of 20,000 steps has no other.
+    /// Nothing is lost to rounding, and a line of 20,000 steps has no other.
     pub fn end(&mut self) -> Result<(), Difference> {
-        let none = vec![0; self.network.segments.len()];
+        let none = Call::Step(vec![0; self.network.segments.len()].into());
+        if let Some(what) = self.outflows.wrong(&self.network) {
+            return Err(self.differs(&none, what));
+        }
         match self.case.steps {
-            MOST_STEPS => self.expect(&Call::Step(none.into()), 16),
+            MOST_STEPS => self.expect(&none, 16),
             _ => Ok(()),
         }
     }

@@ -33,7 +33,8 @@ pub fn one(random: &mut Random, index: u64) -> Result<(), Difference> {
         }
         begun.push(step(&mut line)?);
     }
-    permitted(&line, begun, most)
+    permitted(&line, begun, most)?;
+    line.end()
 }
 
 /// A step with no arrivals. Answers the greatest K for which it counts.

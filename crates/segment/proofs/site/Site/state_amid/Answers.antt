@@ -16,7 +16,8 @@ unfolding new_state
 returns c = simp (
   c.new_speed-v.ensures,
   c.density.ensures,
-  c.outflow-outflow.ensures.0,
+  c.outflow-outflow.ensures.whole.0,
+  c.outflow-outflow.ensures.remainder,
   c.min-release.ensures,
   c.min.ensures,
   c.new_ramp-ramp.ensures,

@@ -45,7 +45,7 @@ pub record Holds (a : Arrays) (xs : List Answer) (z : Arrays) (h : List Call) (y
   -- every answer of the list is the book's
   pub same_answers : xs ≡ ys
   -- the stored network, the live case and each held case are what the book's lines give; a case is a state for each segment (N, bits of v,
-  -- w, sign, setting, R, last outflow and last release) and steps, arrivals, exits and time
+  -- w, sign, setting, R, last outflow, last release, S, m and b) and steps, arrivals, exits and time
   pub network : network_at z.words ≡ b.network
   pub cases : (k : ℕ) (l : Line) → line_at b k ≡ some l → case_at z.words z.speeds k ≡ case_of b.network b.begun l
   pub marks : (k : ℕ) → filled_at z.words k ≡ is_filled (b.slot k)

@@ -14,7 +14,7 @@
 #define WORDS (2576 + 7 * (16 + 8))
 #define SPEEDS 7
 #define DAY_BYTES (8 + 4 * 2)   /* a survey file of two rows of one arrival */
-#define ARRANGEMENT 3           /* the number of this arrangement */
+#define ARRANGEMENT 4           /* the number of this arrangement */
 #define ARRANGEMENT_AT 2575     /* its word */
 #define START 2                 /* the slot of the start case */
 #define EMPTY 3                 /* a slot that stays empty */
@@ -213,7 +213,7 @@ static void signs(Study study)
 {
     expect("sign", study_sign(study.words, WORDS, study.speeds, SPEEDS, 1, 70, -100), 0);
     expect("step under a sign", step(study, 0), 0);
-    expect_segment(study, 97500.0 + 0.5 * (63000.0 - 97500.0), 5717, 0);
+    expect_segment(study, 97500.0 + 0.5 * (63000.0 - 97500.0), 5718, 0);
 }
 
 /* The start case, held right after Start, comes back with its dark sign and its count of steps. */

@@ -10,18 +10,17 @@ mod followers; // followers.rt: what follows a segment
 mod refused; // refused.rt: what refuses a file, and where
 mod accepted; // accepted.rt: what an accepted file holds
 
-use std::io;
-use std::io::Read;
-
-// So many bytes are read: no accepted file has as many, and those after them would change neither refusal nor place.
+// So many bytes are read, into fixed memory, which cannot run out: no accepted file has as many, and those after them would change neither
+// refusal nor place.
 const MOST_READ: usize = 65536;
 
-fn main(rt: HostRuntime) -> io::Result<()> {
-    let mut bytes = Vec::new(rt.alloc());
-    rt.reader().take(MOST_READ as u64).read_to_end(&mut bytes)?;
-    let file = bytes.as_slice();
-    match places::place_of(file) {
+// A read that fails is the end of the file, and a write that fails is passed over.
+fn main(rt: HostRuntime) {
+    let mut bytes = [0; MOST_READ];
+    let length = io::read_full(0, &mut bytes);
+    let file = &bytes[..length];
+    let _ = match places::place_of(file) {
         None => accepted::summary(&rt, file),
         Some(place) => refused::tell(&rt, file, place),
-    }
+    };
 }

@@ -11,11 +11,10 @@ ghost use Rattle.tallies.specs.Run.{steps, ran};
 
 use book::CaseFigures;
 use laws::Refusal;
-use std::io;
-use std::io::Read;
 
-// So many bytes are read: no accepted file has as many, and those after them would not change what refuses it.
-const MOST_READ: u64 = 65536;
+// So many bytes are read, into fixed memory, which cannot run out: no accepted file has as many, and those after them would not change what
+// refuses it.
+const MOST_READ: usize = 65536;
 
 // The live case's figures, or what refuses a call.
 type Tally = Result<CaseFigures, Refusal>;
@@ -48,7 +47,7 @@ fn run(file: &[u8], words: &mut [u64], speeds: &mut [f64]) -> Result<[Tally; 3],
 }
 
 // A line of the listing. The figures are a type of another crate and are printed here alone, so that a Display would be no plainer.
-fn print_tally(rt: &impl Print, tally: Tally) -> io::Result<()> {
+fn print_tally(rt: &impl Print, tally: Tally) -> std::io::Result<()> {
     match tally {
         Err(why) => println!(rt; "{why}"),
         Ok(f) => println!(rt;
@@ -58,21 +57,23 @@ fn print_tally(rt: &impl Print, tally: Tally) -> io::Result<()> {
     }
 }
 
-// The arrays are long enough for 40 segments, so that a network of several is refused by its lists (13).
-fn main(rt: HostRuntime) -> io::Result<()> {
-    let mut file = Vec::new(rt.alloc());
-    rt.reader().take(MOST_READ).read_to_end(&mut file)?;
+// The arrays are long enough for 40 segments, so that a network of several is refused by its lists (13). A read that fails is the end of the
+// file, and a write that fails is passed over.
+fn main(rt: HostRuntime) {
+    let mut bytes = [0; MOST_READ];
+    let length = io::read_full(0, &mut bytes);
     // the arrays that a caller in C would lend
     let mut words = [0; 7112];
     let mut speeds = [0.0; 280];
-    match run(&file, &mut words, &mut speeds) {
-        Err(why) => println!(rt; "{why}"),
+    match run(&bytes[..length], &mut words, &mut speeds) {
+        Err(why) => {
+            let _ = println!(rt; "{why}");
+        }
         Ok(tallies) => {
-            println!(rt; "step segments queues arrivals exits time")?;
+            let _ = println!(rt; "step segments queues arrivals exits time");
             for tally in tallies {
-                print_tally(&rt, tally)?;
+                let _ = print_tally(&rt, tally);
             }
-            Ok(())
         }
     }
 }

@@ -104,8 +104,8 @@ pub fn keep(file: &[u8], words: &mut [u64])
     ensures { words.new ≡ kept_words (network_of file.now) ++ drop 2560 words.old }
 {
     let h = network::head_of(file);
+    words[..NETWORK_WORDS].fill(0);
     let kept = &mut words[..NETWORK_WORDS];
-    kept.fill(0);
     keeper::put_head(kept, h);
     keeper::put_entries(file, &mut kept[16..16 + 201 * (h.curves as usize)]);
     keeper::put_segments(file, h.size as u32, kept);

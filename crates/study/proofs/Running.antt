@@ -1,15 +1,18 @@
 -- The rows of a run, one after the other: what was taken so far, and what the rows that are left come to.
 use Prim.Native.Nat.{ℕ, zero, suc, ◌+◌, ◌≤◌, ◌<◌}
 use mathlib.Core.Path.{◌≡◌, refl, sym, ap, ◌∙◌}
-use mathlib.Core.Bool.{true}
+use mathlib.Core.Bool.{true, false, false≢true, true≢false}
 use mathlib.Core.List.{List, [], ◌∷◌}
 use native.Mathlib.Omega.{arith}
 use lib.ListN.{get_or, drop, drop_of_length-le}
 use lib.Ieee.{Float}
 use borrow.Author.Tests.{not-false}
 use Rattle.laws.specs.declared.Refusal.{Refusal}
-use Rattle.laws.specs.Refusal.{number}
-use Rattle.laws.proofs.Refused.{number_some}
+use Rattle.std.specs.Prelude.{Result, Ok, Err}
+use Rattle.std.specs.Option.{is_some}
+use Rattle.std.specs.Result.{result_err}
+use Rattle.laws.specs.Refusal.{number, refused as refused_by, stopped_by}
+use Rattle.laws.proofs.Refused.{number_above, number_some}
 use Rattle.laws.proofs.First.{row_passed, row_later}
 use Rattle.survey_file.specs.File.{rows_on, row_on, rows_in, survey_number}
 use Rattle.survey_file.proofs.Accepted.{AcceptedSurvey, survey_accepted, length_rows, rows_from}
@@ -43,6 +46,20 @@ stop_refused : {S : Type 0} (m k : ℕ) (s : S) (later : Outcome S) → 0 < m �
 unfolding unless_stopped
 stop_refused zero k s later some = absurd (omega arith)
 stop_refused (suc m) k s later some = refl
+
+-- ---- what a row's answer says of the run
+
+pub stopped_number : (v : Result (Unit {0}) Refusal) → stopped_by (result_err v) ≡ refused_by v
+stopped_number (Ok x) = refl
+stopped_number (Err why) = refl
+
+pub stopped_some : (v : Result (Unit {0}) Refusal) → is_some (result_err v) ≡ true → 0 < refused_by v
+stopped_some (Ok x) e = absurd (false≢true e)
+stopped_some (Err why) e = number_above why
+
+pub stopped_none : (v : Result (Unit {0}) Refusal) → is_some (result_err v) ≡ false → 0 ≡ refused_by v
+stopped_none (Ok x) e = refl
+stopped_none (Err why) e = absurd (true≢false e)
 
 -- ---- what the rows from row k on come to
 

@@ -87,13 +87,13 @@ pub vehicles_few : (words : List ℕ) (n : ℕ) → sum_of (vehicles_at words 25
 vehicles_few words n few = (few, λ i l. omega (arith, sum_term (vehicles_at words 2576) n i l))
 
 -- the next row meets what this one met
-pub ready_next : {words : List ℕ} {speeds : List Float} {n : ℕ} {words' : List ℕ} {speeds' : List Float} (ds : List ℕ) → RowReady words speeds n
-    → RowTaken words speeds ds 0 words' speeds' → RowReady words' speeds' n
+pub ready_next : {words : List ℕ} {speeds : List Float} {n : ℕ} {m : ℕ} {words' : List ℕ} {speeds' : List Float} (ds : List ℕ) → RowReady words speeds n
+    → RowTaken words speeds ds m words' speeds' → 0 ≡ m → RowReady words' speeds' n
 unfolding perform
-ready_next {words} {speeds} ds r t =
+ready_next {words} {speeds} ds r t none =
     let a = lent words speeds in
     let c = item (stepped ds) in
-    let z = sym t.number in
+    let z = sym (none ∙ t.number) in
     let is : (perform c a).state ≡ stored c a = ap (λ (o : Outcome Arrays). o.state) (unless-accepted (refusal_at c a) a _ z) in
     rw (t.words_are, t.speeds_are, is) (row_next ds r z)
 

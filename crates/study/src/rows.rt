@@ -64,11 +64,10 @@ pub(crate) fn run_rows(words: &mut [u64], speeds: &mut [f64], file: &[u8], n: us
     let mut row = [0; 40];
     for k in 0..rows {
         survey::row(file, n, k as usize, &mut row);
-        if let Err(why) = step_row(words, speeds, &row[..n]) {
-            return Ran {
-                taken: k,
-                stopped: Some(why),
-            };
+        let stopped = step_row(words, speeds, &row[..n]).err();
+        let ends = stopped.is_some();
+        if ends {
+            return Ran { taken: k, stopped };
         }
     }
     Ran {

@@ -14,12 +14,12 @@ use Rattle.survey_file.specs.Read.{read_number, read_list}
 use Rattle.book.specs.Question.{Answer, accepted, figures, number_of, says, verdict_says, count_says}
 use Rattle.book.specs.Question as answer
 use Rattle.book.specs.Calls.{Call, start, item, hold, recall, drop_slot, question}
-use Rattle.book.specs.Perform.{Arrays, Outcome, lent, refusal_at, answer_of, unless, perform}
+use Rattle.book.specs.Perform.{Arrays, Outcome, lent, refusal_at, answer_of, unless, perform, Gives, Performs}
 use Rattle.book.specs.Run.{unless_stopped, step_call, run_rows, run_refusal, perform_run}
 use Rattle.book.proofs.Performing.{unless-number}
 use Rattle.book.proofs.Sim.{on_arrays}
 use Rattle.book.specs.Write.{write_refusal, write_answer}
-use Rattle.engine.specs.Study.{told_number, told_words, figures_unless, rows_read}
+use Rattle.engine.specs.Study.{told_number, told_words, figures_unless, Told, Called, rows_read}
 
 -- ---- calls on a study
 
@@ -53,6 +53,14 @@ pub stays : (A : Type 0) (r : ℕ) (l : A) → if_accepted r l l ≡ l
 unfolding if_accepted
 stays A zero l = refl
 stays A (suc m) l = refl
+
+-- a refusal is told by its number, whatever is lent for figures
+pub refused_told : (out : List ℕ) (m : ℕ) → (m ≡ told_number (answer.refused m) out) × (out ≡ told_words (answer.refused m) out)
+unfolding told_number told_words first if_accepted
+refused_told out zero =
+    let none : row (ltb (length out) 0) 24 0 ≡ 0 = row_skipped _ _ _ (le-ltb (length out) 0 (omega arith)) in
+    (sym none, sym (when_accepted (row (ltb (length out) 0) 24 0) out out none))
+refused_told out (suc m) = (refl, refl)
 
 -- where no words are lent, none is told
 pub nothing_told : (x : Answer) → told_words x [] ≡ []
@@ -93,6 +101,29 @@ module _ (c : Call) (words : List ℕ) (speeds : List Float) (v : Result (Unit {
 
     pub call_speeds : if_accepted (refused v) (perform c a).state.speeds speeds ≡ (perform c a).state.speeds
     call_speeds = kept (λ (b : Arrays). b.speeds)
+
+  -- so what a function of `study` or `begin` promises is what C is told: no words are lent for figures
+  pub called : {words' : List ℕ} {speeds' : List Float} {r : ℕ} → r ≡ number_of (verdict_says v) → Performs c words speeds (verdict_says v) words' speeds'
+      → Called c words speeds [] r words' speeds' []
+  called e p =
+      let is = e ∙ sym (says_number v) in
+      record {
+        number = is ∙ sym (call_number p.answers);
+        figures_are = sym (nothing_told (perform c a).answer);
+        words_are = p.words_are ∙ sym (call_words p.answers) ∙ ap (λ (m : ℕ). if_accepted m (perform c a).state.words words) (sym is);
+        speeds_are = p.speeds_are ∙ sym (call_speeds p.answers) ∙ ap (λ (m : ℕ). if_accepted m (perform c a).state.speeds speeds) (sym is);
+      }
+
+-- a question leaves both arrays, with room for its figures or without
+pub reported : {o : Outcome Arrays} {words : List ℕ} {speeds : List Float} {out out' : List ℕ} {r : ℕ} {x : Answer}
+    → (r ≡ told_number x out) × (out' ≡ told_words x out) → Gives o x words speeds → Told o words speeds out r words speeds out'
+reported {words = words} {speeds = speeds} {out = out} {r = r} e p =
+    record {
+      number = e.0 ∙ ap (λ (y : Answer). told_number y out) p.answers;
+      figures_are = e.1 ∙ ap (λ (y : Answer). told_words y out) p.answers;
+      words_are = sym (stays _ r words) ∙ ap (λ (l : List ℕ). if_accepted r l words) p.words_are;
+      speeds_are = sym (stays _ r speeds) ∙ ap (λ (l : List Float). if_accepted r l speeds) p.speeds_are;
+    }
 
 -- ---- figures that a number may refuse, by the room for them
 

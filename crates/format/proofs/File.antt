@@ -13,7 +13,7 @@ use Rattle.laws.specs.BigEndian.{byte_at, u16_at, u32_at}
 use Rattle.laws.proofs.Lists.{part_fits, part_at}
 use Rattle.laws.proofs.BigEndian.{part_u16, part_u32}
 use Rattle.laws.proofs.Tests.{or_left, or_right}
-use Rattle.laws.proofs.First.{row_passed, row_later, row_skipped, first_zero, first_zero_left, first_zero_right, first_of-zero, first_of_all}
+use Rattle.laws.proofs.First.{row_passed, row_later, row_skipped, first_some, first_zero, first_zero_left, first_zero_right, first_of-zero, first_of_all}
 use Rattle.format.specs.declared.Head.{Head}
 use Rattle.format.specs.declared.Following.{Following}
 use Rattle.format.specs.declared.Segment.{Segment}
@@ -145,6 +145,26 @@ module _ (h : Head) where
         go : (t : Bool) → (t && not (same_following (cond t (chain h.size i) (following_at b at)) (chain h.size i))) ≡ false
         go true = ap not (same (chain h.size i))
         go false = refl
+
+-- ---- the file: which part refuses it
+
+module _ (b : List ℕ) where
+  pub file-head : (head_number b ≡ 0 → ⊥) → file_number b ≡ head_number b
+  unfolding file_number
+  file-head n = first_some _ _ n
+
+  pub file-curves : head_number b ≡ 0 → (curves_number b ≡ 0 → ⊥) → file_number b ≡ curves_number b
+  unfolding file_number
+  file-curves z n = first_zero _ _ z ∙ first_some _ _ n
+
+  module _ (z : head_number b ≡ 0) (w : curves_number b ≡ 0) where
+    pub file_records : (records_number b ≡ 0 → ⊥) → file_number b ≡ records_number b
+    unfolding file_number
+    file_records n = first_zero _ _ z ∙ first_zero _ _ w ∙ first_some _ _ n
+
+    pub file_origins : records_number b ≡ 0 → file_number b ≡ origins_number b
+    unfolding file_number
+    file_origins r = first_zero _ _ z ∙ first_zero _ _ w ∙ first_zero _ _ r
 
 -- what acceptance says of the whole file
 pub record FileAccepted (b : List ℕ) : Type 0 where

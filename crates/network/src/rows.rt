@@ -1,5 +1,5 @@
-// Rows 3, 4, 7, 27 and 8 of a network's numbers, whether they stand in a file or in words. Row 6 is judged apart: a file's entries are four
-// bytes each and those in words eight, and each has its own way without a branch.
+// Rows 3, 4, 6, 7, 27 and 8 of a network's numbers, whether they stand in a file or in words. Of row 6 only eight entries are judged here. A
+// whole curve is judged apart: a file's entries are four bytes each and those in words eight, and each has its own way without a branch.
 ghost use Rattle.std.specs.Prelude.{◌≡◌, ◌<◌, ◌≤◌, ◌||◌, ◌&&◌, take, ltb, eqb};
 ghost use Rattle.laws.specs.Refusal.{refused};
 ghost use Rattle.laws.specs.First.{any_of, row, outside};
@@ -41,6 +41,27 @@ pub fn head_bad(h: Head) -> bool
         | (200 < h.nu)
         | arrays::outside(1, h.kappa, 200)
         | (1000 < h.delta)
+}
+
+// Row 6, of eight entries of a curve, b to i, each against the one before it.
+#[tactic(auto, unfolding(laws::specs::First::row))]
+pub fn eight_rising(
+    a: u64,
+    b: u64,
+    c: u64,
+    d: u64,
+    e: u64,
+    f: u64,
+    g: u64,
+    h: u64,
+    i: u64,
+) -> Result<(), Refusal>
+    ensures { refused result ≡ row (ltb a b) 6 (row (ltb b c) 6 (row (ltb c d) 6 (row (ltb d e) 6 (row (ltb e f) 6 (row (ltb f g) 6 (row (ltb g h) 6 (row (ltb h i) 6 0))))))) }
+{
+    if (a < b) | (b < c) | (c < d) | (d < e) | (e < f) | (f < g) | (g < h) | (h < i) {
+        return Err(Refusal::Curve);
+    }
+    Ok(())
 }
 
 // Row 7, of all fields of segment i but Q and the share.

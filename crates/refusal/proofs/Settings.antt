@@ -1,20 +1,22 @@
--- What acceptance of Sign and Meter says, and where segment i's state stands.
-use Prim.Native.Nat.{ℕ, ◌+◌, ◌-◌, ◌*◌, ◌≤◌}
-use mathlib.Core.Path.{◌≡◌, refl, sym, ◌∙◌}
-use mathlib.Core.Bool.{true, false, not, ◌&&◌}
+-- Sign and Meter: a compliance with 500 added, what acceptance says, and where segment i's state stands.
+use Prim.Native.Nat.{ℕ, suc, ◌+◌, ◌-◌, ◌*◌, ◌≤◌}
+use mathlib.Core.Path.{◌≡◌, refl, sym, ap, ◌∙◌}
+use mathlib.Core.Bool.{Bool, true, false, cond, not, ◌&&◌, ◌||◌}
 use mathlib.Core.List.{List}
 use native.Mathlib.Omega.{arith}
-use lib.Dec.{eqb}
-use lib.IntN.{ℤ}
+use lib.Dec.{ltb, eqb}
+use lib.IntN.{ℤ, pos, negsuc, ◌+ℤ◌}
+use lib.Signed.{lt_z}
 use lib.ListN.{length}
 use lib.Ieee.{Float}
+use borrow.Author.Tests.{ltb-false, le-ltb}
 use Rattle.laws.specs.First.{outside}
 use Rattle.laws.proofs.First.{row_passed, row_later}
 use Rattle.laws.proofs.Tests.{or_right, inside_low, inside_high}
 use Rattle.metanet.specs.declared.Setting.{Setting}
 use Rattle.book.specs.Arrangement.{size_at}
 use Rattle.book.specs.Sound.{sound}
-use Rattle.metanet.specs.Change.{compliance_bad}
+use Rattle.metanet.specs.Change.{compliance_bad, compliance_word}
 use Rattle.book.specs.Perform.{refusal_at, lent}
 use Rattle.book.proofs.Judging.{size_high}
 use Rattle.book.proofs.Sounds.{laid}
@@ -22,6 +24,22 @@ use Rattle.book.proofs.Performing.{accepted-sound}
 use Rattle.refusal.proofs.Table.{sign_rows, meter_rows}
 use Rattle.book.specs.Calls.{item}
 use Rattle.metanet.specs.Line.{signed, metered}
+
+-- ---- compliance
+
+pub compliance_tested : (z : ℤ) → (lt_z z (negsuc 499) || lt_z (pos 500) z) ≡ compliance_bad z
+compliance_tested (pos a) = refl
+compliance_tested (negsuc a) = or_false (ltb 499 a)
+  where
+    or_false : (t : Bool) → (t || false) ≡ t
+    or_false true = refl
+    or_false false = refl
+
+pub compliance_word_lem : (z : ℤ) → compliance_bad z ≡ false → z +ℤ pos 500 ≡ pos (compliance_word z)
+compliance_word_lem (pos a) e = ap pos (omega arith)
+compliance_word_lem (negsuc a) e =
+    let l = ltb-false 499 a e in
+    ap (λ (t : Bool). cond t (negsuc (suc a - suc 500)) (pos (500 - suc a))) (le-ltb 500 (suc a) (omega arith)) ∙ ap pos (omega arith)
 
 -- ---- segment i's state in the live case, i from 1
 

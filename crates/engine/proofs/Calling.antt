@@ -48,7 +48,7 @@ no_number (recall k) a = refl
 no_number (drop_slot k) a = refl
 no_number (question q) a = refl
 
--- a question leaves both arrays, with room for its figures or without
+-- what is the same, accepted or refused, stays
 pub stays : (A : Type 0) (r : ℕ) (l : A) → if_accepted r l l ≡ l
 unfolding if_accepted
 stays A zero l = refl

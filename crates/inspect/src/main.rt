@@ -14,7 +14,7 @@ mod accepted; // accepted.rt: what an accepted file holds
 // refusal nor place.
 const MOST_READ: usize = 65536;
 
-// A read that fails is the end of the file, and a write that fails is passed over.
+// A read that fails is the end of the file. After a write that fails nothing more is written; the status is 0 all the same.
 fn main(rt: HostRuntime) {
     let mut bytes = [0; MOST_READ];
     let length = io::read_full(0, &mut bytes);

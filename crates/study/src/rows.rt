@@ -65,6 +65,7 @@ pub(crate) fn run_rows(words: &mut [u64], speeds: &mut [f64], file: &[u8], n: us
     for k in 0..rows {
         survey::row(file, n, k as usize, &mut row);
         let stopped = step_row(words, speeds, &row[..n]).err();
+        // a name for the test: an edit turns it alone, and the proof keeps its names
         let ends = stopped.is_some();
         if ends {
             return Ran { taken: k, stopped };
